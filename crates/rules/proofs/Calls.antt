@@ -1,0 +1,168 @@
+-- The calls: power-on is valid, every call keeps a valid device valid, and a refused call hands everything back.
+-- Assumes nothing.
+use Prim.Native.Nat.{ℕ, suc, _+_, _≤_, _<_}
+use native.Mathlib.Omega.{arith}
+use mathlib.Core.Path.{_≡_, refl, sym, _∙_, ap}
+use mathlib.Core.Bool.{Bool, true, false, not}
+use mathlib.Core.List.{List, [], _∷_, _++_}
+use lib.Dec.{ltb, eqb}
+use lib.ListN.{length}
+use borrow.Author.Tests.{leb-true, le-leb, le-ltb, ltb-false, eqb-true, eqb-false, eq-eqb, not-false, not-true}
+use Rattle.rules.specs.Choice.{Test, test, firstHit}
+use Rattle.rules.specs.Slots.{busHeld}
+use Rattle.rules.specs.PowerOn.{powerOn, noClocks}
+use Rattle.rules.specs.Validity.{validCore, valid, total, most64}
+use Rattle.rules.specs.Facts.{InRange, Kept}
+use Rattle.rules.specs.Registers.{written}
+use Rattle.rules.specs.Readback.{readByte}
+use Rattle.rules.specs.Buffers.{Store, Buffers}
+use Rattle.rules.specs.World.{World, System, clocked}
+use Rattle.rules.specs.Refusals.{wrongPort, accessRefusal, grantRefusal}
+use Rattle.rules.specs.Calls.{Reply, Answer, refused, accepted, writeReply, readReply, beside, write, read, grantNumber, grant}
+use Rattle.rules.specs.Opened.{opened}
+use Rattle.rules.specs.declared.Clocks.{Clocks}
+use Rattle.rules.specs.declared.Core.{Core}
+use Rattle.rules.proofs.Choice.{clash, pick-cases, pick-true, pick-false, either, all-true, true-all}
+use Rattle.rules.proofs.Validity.{core-parts, parts-core}
+use Rattle.rules.proofs.Writing.{write-kept}
+use Rattle.rules.proofs.Reading.{read-kept}
+use Rattle.rules.proofs.Counting.{clocked-kept, clocked-total}
+
+-- ---- the first test that hits
+
+-- a test that hits gives a number other than 0
+abbrev Tells : Test → Type 0
+Tells t = t .hit ≡ true → t .number ≡ 0 → ⊥
+
+-- where no number is given, the first test did not hit, and the rest gives no number
+missed : (t : Test) (ts : List Test) → Tells t → firstHit (t ∷ ts) ≡ 0 → (t .hit ≡ false) × (firstHit ts ≡ 0)
+unfolding firstHit
+missed t ts n e =
+    either (t .hit) (λ h. absurd (n h (sym (pick-true _ _ _ h) ∙ e))) (λ h. (h, sym (pick-false _ _ _ h) ∙ e))
+
+tells : (k : ℕ) (t : Bool) → Tells (test (suc k) t)
+tells k t h e = omega arith
+
+-- ---- what an accepted call has passed, and nothing more
+
+pub record Access (c : Core) (sum port : ℕ) : Type 0 where
+  pub state : valid c sum ≡ true
+  pub known : wrongPort port ≡ false
+  pub free : busHeld c ≡ false
+
+pub access : (c : Core) (sum port : ℕ) → accessRefusal c sum port ≡ 0 → Access c sum port
+unfolding accessRefusal
+access c sum port e =
+    let h = missed _ _ (tells 0 _) e in
+    let i = missed _ _ (tells 1 _) (h .1) in
+    let j = missed _ _ (tells 2 _) (i .1) in
+    record { state = not-false _ (h .0); known = i .0; free = j .0 }
+
+pub accessed : (c : Core) (sum port : ℕ) → Access c sum port → accessRefusal c sum port ≡ 0
+unfolding accessRefusal firstHit
+accessed c sum port a =
+    pick-false _ _ _ (ap not (a .state)) ∙ pick-false _ _ _ (a .known) ∙ pick-false _ _ _ (a .free)
+
+pub record Granted {M : Type 0} (σ : Store M) (c : Core) (sum : ℕ) (b : Buffers M) (n : ℕ) : Type 0 where
+  pub state : valid c sum ≡ true
+  pub memory : σ .refusal (b .memory) ≡ 0
+  pub latches : length (b .latches) ≡ 65536
+  pub room : sum + n ≤ most64
+
+module _ {M : Type 0} (σ : Store M) where
+  pub granted : (c : Core) (sum : ℕ) (b : Buffers M) (n : ℕ) → grantRefusal σ c sum b n ≡ 0 → Granted σ c sum b n
+  unfolding grantRefusal
+  granted c sum b n e =
+      let h = missed _ _ (tells 0 _) e in
+      let i = missed _ _ (λ t z. eqb-false _ _ (not-true _ t) z) (h .1) in
+      let j = missed _ _ (tells 4 _) (i .1) in
+      let k = missed _ _ (tells 5 _) (j .1) in
+      record {
+        state = not-false _ (h .0);
+        memory = eqb-true _ _ (not-false _ (i .0));
+        latches = eqb-true _ _ (not-false _ (j .0));
+        room = ltb-false _ _ (k .0);
+      }
+
+  pub grantable : (c : Core) (sum : ℕ) (b : Buffers M) (n : ℕ) → Granted σ c sum b n → grantRefusal σ c sum b n ≡ 0
+  unfolding grantRefusal firstHit
+  grantable c sum b n g =
+      pick-false _ _ _ (ap not (g .state))
+      ∙ pick-false _ _ _ (ap not (eq-eqb _ _ (g .memory)))
+      ∙ pick-false _ _ _ (ap not (eq-eqb _ _ (g .latches)))
+      ∙ pick-false _ _ _ (le-ltb _ _ (g .room))
+
+-- ---- a valid device stays valid
+
+-- a kept core, and a sum of clock counts that fits
+pub record Sound (c : Core) (k : Clocks) : Type 0 where
+  pub core : Kept c
+  pub sum : total k ≤ most64
+
+-- the test of validity is true of it, and false of no other core within its types
+pub sound-valid : (c : Core) (k : Clocks) → Sound c k → valid c (total k) ≡ true
+unfolding valid
+sound-valid c k s = true-all _ (parts-core c (s .core .valid), (le-leb _ _ (s .sum), tt))
+
+pub valid-sound : (c : Core) (k : Clocks) → InRange c → valid c (total k) ≡ true → Sound c k
+unfolding valid
+valid-sound c k r e =
+    let h = all-true _ e in record { core = record { valid = core-parts c (h .0); range = r }; sum = leb-true _ _ (h .1 .0) }
+
+pub power-on-sound : Sound powerOn noClocks
+unfolding opened
+power-on-sound =
+    record {
+      core =
+          record {
+            valid = core-parts powerOn refl;
+            range = record { a = omega arith; b = omega arith; length = omega arith; prescaler = omega arith };
+          };
+      sum = omega arith;
+    }
+
+pub write-sound : (c : Core) (k : Clocks) (port byte : ℕ) → byte < 256 → Sound c k → Sound (writeReply c k port byte .core) (writeReply c k port byte .clocks)
+unfolding writeReply
+write-sound c k port byte h s =
+    pick-cases (λ (r : Reply). Sound (r .core) (r .clocks)) _ _ _
+    (λ e. record { core = write-kept port byte c h (access c (total k) port (eqb-true _ _ e) .free) (s .core); sum = s .sum })
+    (λ e. s)
+
+pub read-sound : (c : Core) (k : Clocks) (port : ℕ) → Sound c k → Sound (readReply c k port .core) (readReply c k port .clocks)
+unfolding readReply
+read-sound c k port s =
+    pick-cases (λ (r : Reply). Sound (r .core) (r .clocks)) _ _ _ (λ e. record { core = read-kept c (s .core); sum = s .sum }) (λ e. s)
+
+abbrev pub SoundSystem : {M : Type 0} → System M → Type 0
+SoundSystem s = Sound (s .world .core) (s .clocks)
+
+-- ---- a refused call hands everything back
+
+pub write-refused : (c : Core) (k : Clocks) (port byte : ℕ) → (writeReply c k port byte .number ≡ 0 → ⊥) → writeReply c k port byte ≡ refused (accessRefusal c (total k) port) c k
+unfolding writeReply
+write-refused c k port byte =
+    pick-cases (λ (r : Reply). (r .number ≡ 0 → ⊥) → r ≡ refused (accessRefusal c (total k) port) c k) _ _ _
+    (λ e n. absurd (n refl)) (λ e n. refl)
+
+pub read-refused : (c : Core) (k : Clocks) (port : ℕ) → (readReply c k port .number ≡ 0 → ⊥) → readReply c k port ≡ refused (accessRefusal c (total k) port) c k
+unfolding readReply
+read-refused c k port =
+    pick-cases (λ (r : Reply). (r .number ≡ 0 → ⊥) → r ≡ refused (accessRefusal c (total k) port) c k) _ _ _
+    (λ e n. absurd (n refl)) (λ e n. refl)
+
+module _ {M : Type 0} (σ : Store M) where
+  pub grant-sound : (s : System M) (n : ℕ) → SoundSystem s → SoundSystem (grant σ s n .system)
+  unfolding grant
+  grant-sound s n h =
+      pick-cases (λ (a : Answer M). SoundSystem (a .system)) _ _ _
+      (λ e.
+      let g = granted σ _ _ _ n (eqb-true _ _ e) in
+      record { core = clocked-kept σ n s (h .core); sum = (let t = clocked-total σ n s in omega (arith, g .room)) })
+      (λ e. h)
+
+  pub grant-refused : (s : System M) (n : ℕ) → (grant σ s n .number ≡ 0 → ⊥) → grant σ s n ≡ record { number = grantNumber σ s n; byte = 0; system = s }
+  unfolding grant
+  grant-refused s n =
+      pick-cases
+      (λ (a : Answer M). (a .number ≡ 0 → ⊥) → a ≡ record { number = grantNumber σ s n; byte = 0; system = s })
+      _ _ _ (λ e n. absurd (n refl)) (λ e n. refl)

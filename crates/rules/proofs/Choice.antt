@@ -1,0 +1,102 @@
+-- Laws of choosing by a test.
+-- Assumes nothing.
+use Prim.Native.Nat.{ℕ}
+use native.Mathlib.Omega.{arith}
+use mathlib.Core.Path.{_≡_, refl, sym, _∙_, ap}
+use mathlib.Core.Bool.{Bool, true, false, not}
+use mathlib.Core.List.{List, [], _∷_}
+use Rattle.rules.specs.Choice.{pick, every, any}
+
+-- true is not false
+pub clash {ℓ} : {X : Type ℓ} → false ≡ true → X
+clash e = absurd (let z : _≡_ {A = ℕ} 0 1 = cc in omega arith)
+
+pub pick-true {ℓ} : {X : Type ℓ} (t : Bool) (x y : X) → t ≡ true → pick t x y ≡ x
+unfolding pick
+pick-true true x y e = refl
+pick-true false x y e = clash e
+
+pub pick-false {ℓ} : {X : Type ℓ} (t : Bool) (x y : X) → t ≡ false → pick t x y ≡ y
+unfolding pick
+pick-false true x y e = clash (sym e)
+pick-false false x y e = refl
+
+-- what holds of either choice under its test holds of the choice
+pub pick-cases {ℓ κ} : {X : Type ℓ} (P : X → Type κ) (t : Bool) (x y : X) → (t ≡ true → P x) → (t ≡ false → P y) → P (pick t x y)
+unfolding pick
+pick-cases P true x y f g = f refl
+pick-cases P false x y f g = g refl
+
+-- what holds of both choices holds of the choice
+pub pick-both {ℓ κ} : {X : Type ℓ} (P : X → Type κ) (t : Bool) (x y : X) → P x → P y → P (pick t x y)
+pick-both P t x y p q = pick-cases P t x y (λ e. p) (λ e. q)
+
+-- a function of a choice
+pub pick-ap {ℓ κ} : {X : Type ℓ} {Y : Type κ} (f : X → Y) (t : Bool) (x y : X) → f (pick t x y) ≡ pick t (f x) (f y)
+unfolding pick
+pick-ap f true x y = refl
+pick-ap f false x y = refl
+
+pub not-of-false : (t : Bool) → t ≡ false → not t ≡ true
+not-of-false true e = clash (sym e)
+not-of-false false e = refl
+
+-- a test is true or false
+pub either {ℓ} : {X : Type ℓ} (t : Bool) → (t ≡ true → X) → (t ≡ false → X) → X
+either true f g = f refl
+either false f g = g refl
+
+-- ---- every test holds
+
+pub every-first : (t : Bool) (ts : List Bool) → every (t ∷ ts) ≡ true → t ≡ true
+unfolding every pick
+every-first true ts e = refl
+every-first false ts e = clash e
+
+pub every-more : (t : Bool) (ts : List Bool) → every (t ∷ ts) ≡ true → every ts ≡ true
+unfolding every pick
+every-more true ts e = e
+every-more false ts e = clash e
+
+pub every-none : every [] ≡ true
+unfolding every
+every-none = refl
+
+pub every-one-more : (t : Bool) (ts : List Bool) → t ≡ true → every ts ≡ true → every (t ∷ ts) ≡ true
+unfolding every pick
+every-one-more true ts d e = e
+every-one-more false ts d e = clash d
+
+-- the tests of a list as facts
+abbrev pub All : List Bool → Type 0
+All [] = Unit {0}
+All (t ∷ ts) = (t ≡ true) × All ts
+
+pub all-true : (ts : List Bool) → every ts ≡ true → All ts
+all-true [] e = tt
+all-true (t ∷ ts) e = (every-first t ts e, all-true ts (every-more t ts e))
+
+pub true-all : (ts : List Bool) → All ts → every ts ≡ true
+true-all [] a = every-none
+true-all (t ∷ ts) a = every-one-more t ts (a .0) (true-all ts (a .1))
+
+-- ---- some test holds
+
+pub any-first : (t : Bool) (ts : List Bool) → t ≡ true → any (t ∷ ts) ≡ true
+unfolding any pick
+any-first true ts e = refl
+any-first false ts e = clash e
+
+pub any-more : (t : Bool) (ts : List Bool) → any ts ≡ true → any (t ∷ ts) ≡ true
+unfolding any pick
+any-more true ts e = refl
+any-more false ts e = e
+
+pub any-cases {ℓ} : {X : Type ℓ} (t : Bool) (ts : List Bool) → any (t ∷ ts) ≡ true → (t ≡ true → X) → (any ts ≡ true → X) → X
+unfolding any pick
+any-cases true ts e f g = f refl
+any-cases false ts e f g = g e
+
+pub any-none {ℓ} : {X : Type ℓ} → any [] ≡ true → X
+unfolding any
+any-none e = clash e

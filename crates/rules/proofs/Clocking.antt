@@ -1,0 +1,155 @@
+-- One clock keeps a valid core valid. What is needed of a slot's n-th clock: the slot's figures are valid, n is within the
+-- length, and up to the bus time the block is not finished, so the counter has room for one more.
+-- Assumes nothing.
+use Prim.Native.Nat.{ℕ, _+_, _*_, _%_, _≤_, _<_}
+use native.Mathlib.Omega.{arith}
+use mathlib.Core.Path.{_≡_, refl, sym, _∙_}
+use mathlib.Core.Bool.{Bool, true, false}
+use mathlib.Core.List.{[], _∷_}
+use lib.Dec.{leb, ltb, eqb}
+use native.Mathlib.Nat.{le-of-eq, le-of-lt}
+use borrow.Author.Tests.{ltb-true, ltb-false, leb-false, eqb-true, eqb-false, lt-leb}
+use Rattle.rules.specs.Choice.{every}
+use Rattle.rules.specs.Parts.{withCounter, withBlock, withSlot}
+use Rattle.rules.specs.Blocks.{blockCount, finished}
+use Rattle.rules.specs.Slots.{noSlot, unmoved}
+use Rattle.rules.specs.Facts.{Kept, Resting, SlotLength, busTime, prescaled, Running, ValidSlot, resting, running}
+use Rattle.rules.specs.Clock.{Kind, Clock, slotLength, newSlot, moved, withElapsed, stopped, restarted, slotEnd, movesAt, movedAt, kindAt, slotClock, firstClock, clockOf}
+use Rattle.rules.specs.declared.Block.{Block}
+use Rattle.rules.specs.declared.Slot.{Slot}
+use Rattle.rules.specs.declared.Core.{Core}
+use Rattle.rules.proofs.Choice.{clash, pick-cases, pick-both, either, all-true}
+use Rattle.rules.proofs.Slots.{unmoved-cases, unmoved-first, unmoved-below}
+use Rattle.rules.proofs.Ports.{good-advanced, good-loaded}
+use Rattle.rules.proofs.Steady.{SteadyCore, steady-a, steady-b, steady-block, kept-from, kept-steady, kept-slot, kept-progress}
+
+-- ---- the block
+
+-- a block has at most 65,536 bytes
+pub count-most : (b : Block) → b .length < 65536 → blockCount b ≤ 65536
+unfolding blockCount
+count-most b h = pick-both (λ n. n ≤ 65536) _ _ _ (omega arith) (omega arith)
+
+-- an unfinished block has room for one more byte
+unfinished-room : (b : Block) → b .length < 65536 → finished b ≡ false → b .counter + 1 ≤ 65536
+unfolding finished
+unfinished-room b h e = omega (arith, leb-false (blockCount b) (b .counter) e, count-most b h)
+
+-- a block of some bytes is unfinished once the counter is 0
+reloaded-unfinished : (b : Block) → 0 < blockCount b → finished (withCounter 0 b) ≡ false
+unfolding finished blockCount
+reloaded-unfinished b h = lt-leb _ _ h
+
+-- ---- a slot's n-th clock
+
+record Turn (n : ℕ) (c : Core) : Type 0 where
+  on : c .enabled ≡ true
+  first : 0 < n
+  last : n ≤ c .slot .length
+  least : 4 ≤ c .slot .bus
+  most : c .slot .bus ≤ 8
+  length : SlotLength (c .slot)
+  unfinished : n ≤ c .slot .bus → finished (c .block) ≡ false
+
+-- the slot of which n clocks have elapsed
+turn-running : (n : ℕ) (c : Core) → Turn n c → n < c .slot .length → ValidSlot (c .enabled) (withElapsed n c .slot)
+turn-running n c t h = running (t .on) (record { elapsed = t .first; below = h; least = t .least; most = t .most; length = same (t .length) })
+  where
+    same : SlotLength (c .slot) → SlotLength (withElapsed n c .slot)
+    same (busTime e) = busTime e
+    same (prescaled l m e) = prescaled l m e
+
+moved-steady : (c : Core) → SteadyCore c → finished (c .block) ≡ false → SteadyCore (moved c)
+moved-steady c s e =
+    steady-a
+    (steady-b (steady-block s _ (unfinished-room (c .block) (s .length) e) (s .length)) (good-advanced _ (s .b)))
+    (good-advanced _ (s .a))
+
+rest-slot : (t : Bool) → ValidSlot t noSlot
+rest-slot t = resting (record { elapsed = refl; bus = refl; length = refl; burst = refl })
+
+-- the end of a slot
+end-kept : (k : Kind) (m : Bool) (c : Core) → c .enabled ≡ true → SteadyCore c → Kept (slotEnd k m c .next)
+unfolding slotEnd
+end-kept k m c on s =
+    pick-cases (λ (x : Clock). Kept (x .next)) _ _ _
+    (λ e.
+    pick-cases (λ (x : Clock). Kept (x .next)) _ _ _
+    (λ (d : every (c .control .restart ∷ ltb 0 (blockCount (c .block)) ∷ []) ≡ true).
+    kept-from _
+    (steady-a (steady-b (steady-block s _ (omega arith) (s .length)) (good-loaded _ (s .b))) (good-loaded _ (s .a)))
+    (rest-slot _) (λ o u. reloaded-unfinished (c .block) (ltb-true _ _ (all-true _ d .1 .0))))
+    (λ d. kept-from _ s (rest-slot _) (λ o u. clash o)))
+    (λ e. kept-from _ s (rest-slot _) (λ o u. e))
+
+slot-kept : (n : ℕ) (c : Core) → SteadyCore c → Turn n c → Kept (slotClock n c .next)
+unfolding slotClock movedAt
+slot-kept n c s t =
+    pick-cases (λ (x : Clock). Kept (x .next)) _ _ _
+    (λ (h : ltb n (c .slot .length) ≡ true).
+    let v = turn-running n c t (ltb-true _ _ h) in
+    pick-cases (λ d. Kept (withElapsed n d)) (movesAt n c) (moved c) c
+    (λ e.
+    kept-from _ (moved-steady c s (t .unfinished (le-of-eq (eqb-true _ _ e)))) v
+    (λ o u. absurd (unmoved-cases _ u (λ z. omega (arith, t .first)) (λ z. omega (arith, eqb-true n (c .slot .bus) e)))))
+    (λ e. kept-from _ s v (λ o u. unmoved-cases _ u (λ z. absurd (omega (arith, t .first))) (λ z. t .unfinished (le-of-lt z)))))
+    (λ h.
+    pick-cases (λ d. Kept (slotEnd (kindAt n c) (movesAt n c) d .next)) (movesAt n c) (moved c) c
+    (λ e. end-kept _ _ (moved c) (t .on) (moved-steady c s (t .unfinished (le-of-eq (eqb-true _ _ e)))))
+    (λ e. end-kept _ _ c (t .on) s))
+
+-- ---- one clock
+
+-- the slot that the registers start
+new-length : (c : Core) → c .control .prescaler < 256 → SlotLength (newSlot c)
+unfolding slotLength
+new-length c h =
+    pick-cases
+    (λ n. SlotLength (record { elapsed = 0; bus = c .a .cycle + c .b .cycle; length = n; burst = c .control .burst }))
+    _ _ _ (λ e. busTime refl)
+    (λ (e : eqb (c .control .prescaler) 0 ≡ false).
+    let n = eqb-false (c .control .prescaler) 0 e in prescaled (omega (arith, n)) (omega arith) (omega arith))
+
+-- a slot is not empty
+length-some : (s : Slot) → 4 ≤ s .bus → SlotLength s → 1 ≤ s .length
+length-some s h (busTime e) = omega arith
+length-some s h (prescaled l m e) = omega arith
+
+first-turn : (c : Core) → SteadyCore c → c .enabled ≡ true → finished (c .block) ≡ false → Turn 1 (withSlot (newSlot c) c)
+first-turn c s on e =
+    record {
+      on = on;
+      first = omega arith;
+      last = length-some (newSlot c) (omega (arith, s .a .cycle, s .b .cycle)) (new-length c (s .prescaler));
+      least = omega (arith, s .a .cycle, s .b .cycle);
+      most = omega (arith, s .a .cycle, s .b .cycle);
+      length = new-length c (s .prescaler);
+      unfinished = λ h. e;
+    }
+
+next-turn : (c : Core) → Kept c → ValidSlot (c .enabled) (c .slot) → c .enabled ≡ true → (c .slot .elapsed ≡ 0 → ⊥) → Turn (c .slot .elapsed + 1) c
+next-turn c k (resting r) on e = absurd (e (r .elapsed))
+next-turn c k (running o r) on e =
+    record {
+      on = on;
+      first = omega arith;
+      last = omega (arith, r .below);
+      least = r .least;
+      most = r .most;
+      length = r .length;
+      unfinished = λ h. kept-progress c k on (unmoved-below (c .slot) (omega arith));
+    }
+
+-- one clock keeps a valid core valid
+pub clock-kept : (c : Core) → Kept c → Kept (clockOf c .next)
+unfolding clockOf firstClock
+clock-kept c k =
+    let s = kept-steady c k in
+    pick-cases (λ (x : Clock). Kept (x .next)) _ _ _
+    (λ on.
+    pick-cases (λ (x : Clock). Kept (x .next)) _ _ _
+    (λ z.
+    pick-cases (λ (x : Clock). Kept (x .next)) _ _ _ (λ e. kept-from _ s (rest-slot _) (λ o u. clash o))
+    (λ e. slot-kept 1 _ s (first-turn c s on e)))
+    (λ z. slot-kept _ c s (next-turn c k (kept-slot c k) on (eqb-false _ _ z))))
+    (λ e. k)

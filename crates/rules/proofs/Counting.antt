@@ -1,0 +1,50 @@
+-- n clocks: clocks of m + n are n after m, each is counted once, and a valid core stays valid throughout.
+-- Assumes nothing.
+use Prim.Native.Nat.{ℕ, zero, suc, _+_}
+use native.Mathlib.Omega.{arith}
+use native.Mathlib.Nat.{add-zero, add-suc}
+use mathlib.Core.Path.{_≡_, refl, sym, _∙_, ap}
+use Rattle.rules.specs.Validity.{total}
+use Rattle.rules.specs.Facts.{Kept}
+use Rattle.rules.specs.Clock.{Kind, busClock, heldClock, cpuClock, counted, clockOf}
+use Rattle.rules.specs.Buffers.{Store}
+use Rattle.rules.specs.World.{System, stepCounted, clocked}
+use Rattle.rules.specs.declared.Clocks.{Clocks}
+use Rattle.rules.proofs.Clocking.{clock-kept}
+
+-- a clock adds 1 to the sum of the counts
+pub total-counted : (k : Kind) (x : Clocks) → total (counted k x) ≡ total x + 1
+total-counted busClock x = omega arith
+total-counted heldClock x = omega arith
+total-counted cpuClock x = omega arith
+
+module _ {M : Type 0} (σ : Store M) where
+  pub clocked-zero : (s : System M) → clocked σ 0 s ≡ s
+  unfolding clocked
+  clocked-zero s = refl
+
+  pub clocked-suc : (n : ℕ) (s : System M) → clocked σ (suc n) s ≡ stepCounted σ (clocked σ n s)
+  unfolding clocked
+  clocked-suc n s = refl
+
+  -- clocks of m + n are n after m
+  pub clocked-add : (m n : ℕ) (s : System M) → clocked σ (m + n) s ≡ clocked σ n (clocked σ m s)
+  clocked-add m zero s = ap (λ k. clocked σ k s) (add-zero m) ∙ sym (clocked-zero (clocked σ m s))
+  clocked-add m (suc n) s =
+      ap (λ k. clocked σ k s) (add-suc m n)
+      ∙ clocked-suc (m + n) s
+      ∙ ap (stepCounted σ) (clocked-add m n s)
+      ∙ sym (clocked-suc n (clocked σ m s))
+
+  -- n clocks add n to the sum of the counts
+  pub clocked-total : (n : ℕ) (s : System M) → total (clocked σ n s .clocks) ≡ total (s .clocks) + n
+  clocked-total zero s = ap (λ (t : System M). total (t .clocks)) (clocked-zero s) ∙ sym (add-zero _)
+  clocked-total (suc n) s =
+      ap (λ (t : System M). total (t .clocks)) (clocked-suc n s)
+      ∙ total-counted (clockOf (clocked σ n s .world .core) .kind) (clocked σ n s .clocks)
+      ∙ (let h = clocked-total n s in omega arith)
+
+  -- n clocks keep a valid core valid
+  pub clocked-kept : (n : ℕ) (s : System M) → Kept (s .world .core) → Kept (clocked σ n s .world .core)
+  clocked-kept zero s k = rw clocked-zero k
+  clocked-kept (suc n) s k = rw (clocked-suc n s) (clock-kept _ (clocked-kept n s k))

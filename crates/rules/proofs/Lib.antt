@@ -1,0 +1,12 @@
+pub mod Choice
+pub mod Validity
+pub mod Slots
+pub mod Ports
+pub mod Parameters
+pub mod Steady
+pub mod Writing
+pub mod Reading
+pub mod Clocking
+pub mod Counting
+pub mod Calls
+pub mod WorkedExamples

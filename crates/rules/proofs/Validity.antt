@@ -1,0 +1,123 @@
+-- Validity: the tests are true exactly where the facts hold. Each test is taken apart by the laws of `&&`, `||` and `pick`.
+-- Assumes nothing.
+use Prim.Native.Nat.{ℕ}
+use native.Mathlib.Omega.{arith}
+use mathlib.Core.Path.{_≡_, sym, _∙_}
+use mathlib.Core.Bool.{Bool, true, false}
+use mathlib.Core.List.{[], _∷_}
+use lib.Dec.{eqb}
+use borrow.Author.Tests.{ltb-true, leb-true, eqb-true, eqb-false, lt-ltb, le-leb, eq-eqb, ne-eqb, not-true}
+use Rattle.rules.specs.Choice.{every}
+use Rattle.rules.specs.Blocks.{finished}
+use Rattle.rules.specs.Slots.{unmoved}
+use Rattle.rules.specs.Pending.{validPending}
+use Rattle.rules.specs.Validity.{validPort, validReadback, restingSlot, validLength, runningSlot, validSlot, validProgress, validCore}
+use Rattle.rules.specs.Facts.{ValidParts, ValidCycle, ValidReading, Resting, SlotLength, busTime, prescaled, Running, ValidSlot, resting, running}
+use Rattle.rules.specs.declared.Port.{Port}
+use Rattle.rules.specs.declared.Block.{Block}
+use Rattle.rules.specs.declared.Readback.{Readback}
+use Rattle.rules.specs.declared.Slot.{Slot}
+use Rattle.rules.specs.declared.Core.{Core}
+use Rattle.rules.proofs.Choice.{clash, pick-true, pick-false, not-of-false, either, all-true, true-all, any-first, any-more, any-cases, any-none}
+
+-- ---- the core, part by part
+
+pub core-parts : (c : Core) → validCore c ≡ true → ValidParts c
+unfolding validCore
+core-parts c e =
+    let h = all-true _ e in
+    record {
+      a = h .0;
+      b = h .1 .0;
+      counter = leb-true _ _ (h .1 .1 .0);
+      readback = h .1 .1 .1 .0;
+      pending = h .1 .1 .1 .1 .0;
+      slot = h .1 .1 .1 .1 .1 .0;
+      progress = h .1 .1 .1 .1 .1 .1 .0;
+    }
+
+pub parts-core : (c : Core) → ValidParts c → validCore c ≡ true
+unfolding validCore
+parts-core c v =
+    true-all _ (v .a, (v .b, (le-leb _ _ (v .counter), (v .readback, (v .pending, (v .slot, (v .progress, tt)))))))
+
+-- ---- a port's cycle
+
+pub port-cycle : (p : Port) → validPort p ≡ true → ValidCycle p
+unfolding validPort
+port-cycle p e = let h = all-true _ e in record { least = leb-true _ _ (h .0); most = leb-true _ _ (h .1 .0) }
+
+pub cycle-port : (p : Port) → ValidCycle p → validPort p ≡ true
+unfolding validPort
+cycle-port p v = true-all _ (le-leb _ _ (v .least), (le-leb _ _ (v .most), tt))
+
+-- ---- read-back
+
+pub readback-reading : (r : Readback) → validReadback r ≡ true → ValidReading r
+unfolding validReadback
+readback-reading r e = let h = all-true _ e in record { mask = leb-true _ _ (h .0); position = leb-true _ _ (h .1 .0) }
+
+pub reading-readback : (r : Readback) → ValidReading r → validReadback r ≡ true
+unfolding validReadback
+reading-readback r v = true-all _ (le-leb _ _ (v .mask), (le-leb _ _ (v .position), tt))
+
+-- ---- the slot
+
+length-facts : (s : Slot) → validLength s ≡ true → SlotLength s
+unfolding validLength
+length-facts s e =
+    any-cases _ _ e (λ d. busTime (eqb-true _ _ d))
+    (λ r. any-cases _ _ r (λ d. let h = all-true _ d in prescaled (leb-true _ _ (h .0)) (leb-true _ _ (h .1 .0)) (eqb-true _ _ (h .1 .1 .0))) any-none)
+
+facts-length : (s : Slot) → SlotLength s → validLength s ≡ true
+unfolding validLength
+facts-length s (busTime e) = any-first _ _ (eq-eqb _ _ e)
+facts-length s (prescaled l m d) = any-more _ _ (any-first _ _ (true-all _ (le-leb _ _ l, (le-leb _ _ m, (eq-eqb _ _ d, tt)))))
+
+resting-facts : (s : Slot) → s .elapsed ≡ 0 → restingSlot s ≡ true → Resting s
+unfolding restingSlot
+resting-facts s z e =
+    let h = all-true _ e in
+    record { elapsed = z; bus = eqb-true _ _ (h .0); length = eqb-true _ _ (h .1 .0); burst = not-true _ (h .1 .1 .0) }
+
+running-facts : (s : Slot) → (s .elapsed ≡ 0 → ⊥) → runningSlot s ≡ true → Running s
+unfolding runningSlot
+running-facts s n e =
+    let h = all-true _ e in
+    record {
+      elapsed = omega (arith, n);
+      below = ltb-true _ _ (h .1 .1 .1 .0);
+      least = leb-true _ _ (h .0);
+      most = leb-true _ _ (h .1 .0);
+      length = length-facts s (h .1 .1 .0);
+    }
+
+pub slot-facts : (t : Bool) (s : Slot) → validSlot t s ≡ true → ValidSlot t s
+unfolding validSlot
+slot-facts t s e =
+    either (eqb (s .elapsed) 0)
+    (λ z. resting (resting-facts s (eqb-true _ _ z) (sym (pick-true _ _ _ z) ∙ e)))
+    (λ n. let h = all-true _ (sym (pick-false _ _ _ n) ∙ e) in running (h .0) (running-facts s (eqb-false _ _ n) (h .1 .0)))
+
+pub facts-slot : (t : Bool) (s : Slot) → ValidSlot t s → validSlot t s ≡ true
+unfolding validSlot restingSlot runningSlot
+facts-slot t s (resting r) =
+    pick-true _ _ _ (eq-eqb _ _ (r .elapsed))
+    ∙ true-all _ (eq-eqb _ _ (r .bus), (eq-eqb _ _ (r .length), (not-of-false _ (r .burst), tt)))
+facts-slot t s (running on r) =
+    pick-false _ _ _ (ne-eqb (s .elapsed) 0 (λ z. omega (arith, r .elapsed)))
+    ∙ true-all _ (on, (true-all _ (le-leb _ _ (r .least), (le-leb _ _ (r .most), (facts-length s (r .length), (lt-ltb _ _ (r .below), tt)))), tt))
+
+-- ---- progress
+
+pub progress-facts : (t : Bool) (b : Block) (s : Slot) → validProgress t b s ≡ true → t ≡ true → unmoved s ≡ true → finished b ≡ false
+unfolding validProgress
+progress-facts t b s e on u =
+    either (finished b) (λ d. clash (sym (not-true _ e) ∙ true-all (t ∷ unmoved s ∷ finished b ∷ []) (on, (u, (d, tt))))) (λ d. d)
+
+pub facts-progress : (t : Bool) (b : Block) (s : Slot) → (t ≡ true → unmoved s ≡ true → finished b ≡ false) → validProgress t b s ≡ true
+unfolding validProgress
+facts-progress t b s f =
+    either (every (t ∷ unmoved s ∷ finished b ∷ []))
+    (λ d. let h = all-true _ d in clash (sym (f (h .0) (h .1 .0)) ∙ h .1 .1 .0))
+    (λ d. not-of-false _ d)

@@ -1,0 +1,15 @@
+-- The block count, and whether a block is finished.
+-- Assumes nothing.
+use Prim.Native.Nat.{ℕ, _+_}
+use mathlib.Core.Bool.{Bool}
+use lib.Dec.{leb}
+use Rattle.rules.specs.Choice.{pick}
+use Rattle.rules.specs.declared.Block.{Block}
+
+-- the bytes of a block: the length in zxn mode, one more in Zilog mode, so 0 to 65,536
+unfoldable pub blockCount : Block → ℕ
+blockCount b = pick (b .zilog) (b .length + 1) (b .length)
+
+-- the counter is at or above the block count
+unfoldable pub finished : Block → Bool
+finished b = leb (blockCount b) (b .counter)

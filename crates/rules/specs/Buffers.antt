@@ -1,0 +1,63 @@
+-- The two borrowed buffers (document 01: lent), memory and I/O latches, and a byte that moves between two places in them.
+-- The memory is a parameter: whatever can load and store a byte at an address and say when a grant must refuse it.
+-- Assumes nothing.
+use Prim.Native.Nat.{ℕ}
+use mathlib.Core.Bool.{Bool, not}
+use mathlib.Core.List.{List, [], _∷_}
+use lib.Dec.{eqb}
+use lib.ListN.{length, getD, set}
+use Rattle.rules.specs.Choice.{pick, test, firstHit}
+use Rattle.rules.specs.declared.Port.{Port}
+use Rattle.rules.specs.declared.Core.{Core}
+
+-- a kind of memory: the byte at an address, the memory with a byte stored at one, and the number with which a grant refuses
+-- the memory, 0 where it does not
+pub record Store (M : Type 0) : Type 0 where
+  pub load : M → ℕ → ℕ
+  pub store : M → ℕ → ℕ → M
+  pub refusal : M → ℕ
+
+-- the flat memory is its list of bytes; a grant refuses it with 4 where it is not 65,536 bytes
+abbrev pub flat : Store (List ℕ)
+flat =
+    record {
+      load = λ m address. getD m address 0;
+      store = λ m address byte. set m address byte;
+      refusal = λ m. firstHit (test 4 (not (eqb (length m) 65536)) ∷ []);
+    }
+
+pub record Buffers (M : Type 0) : Type 0 where
+  pub memory : M
+  pub latches : List ℕ
+
+-- where a port's next byte lies
+pub record Place : Type 0 where
+  pub address : ℕ
+  pub io : Bool
+
+abbrev pub placeOf : Port → Place
+placeOf p = record { address = p .pointer; io = p .io }
+
+-- the port that is read
+unfoldable pub source : Core → Place
+source c = pick (c .control .forward) (placeOf (c .a)) (placeOf (c .b))
+
+-- the port that is written
+unfoldable pub destination : Core → Place
+destination c = pick (c .control .forward) (placeOf (c .b)) (placeOf (c .a))
+
+module _ {M : Type 0} (σ : Store M) where
+  -- an I/O read gives the latch at the address; reading changes nothing
+  unfoldable pub byteAt : Place → Buffers M → ℕ
+  byteAt p b = pick (p .io) (getD (b .latches) (p .address) 0) (σ .load (b .memory) (p .address))
+
+  -- an I/O write sets the latch and does nothing else, also at the DMA's own port (ours)
+  unfoldable pub put : Place → ℕ → Buffers M → Buffers M
+  put p byte b =
+      pick (p .io)
+      (record { memory = b .memory; latches = set (b .latches) (p .address) byte })
+      (record { memory = σ .store (b .memory) (p .address) byte; latches = b .latches })
+
+  -- one byte moves
+  abbrev pub transfer : Place → Place → Buffers M → Buffers M
+  transfer from to b = put to (byteAt from b) b

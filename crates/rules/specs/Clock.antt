@@ -1,0 +1,111 @@
+-- One clock of the core. What a clock does to the core, its kind and whether a byte moves depend on the core alone.
+-- Assumes nothing.
+use Prim.Native.Nat.{ℕ, _+_, _*_}
+use mathlib.Core.Bool.{Bool, true, false}
+use mathlib.Core.List.{[], _∷_}
+use mathlib.Core.Option.{Option, none, some}
+use lib.Dec.{leb, ltb, eqb}
+use Rattle.rules.specs.Choice.{pick, every}
+use Rattle.rules.specs.Parts.{withCounter, withT, withA, withB, withBlock, withStatus, withSlot}
+use Rattle.rules.specs.Ports.{advanced}
+use Rattle.rules.specs.Blocks.{blockCount, finished}
+use Rattle.rules.specs.Slots.{noSlot}
+use Rattle.rules.specs.Commands.{blockEnded, disable, load}
+use Rattle.rules.specs.declared.Slot.{Slot}
+use Rattle.rules.specs.declared.Clocks.{Clocks}
+use Rattle.rules.specs.declared.Core.{Core}
+
+-- a clock on the bus, one of waiting with the bus held, or one for the processor
+pub data Kind : Type 0 where
+  busClock heldClock cpuClock : Kind
+
+-- a clock adds 1 to the count of its kind and to no other
+abbrev pub counted : Kind → Clocks → Clocks
+counted busClock k = record { bus = k .bus + 1; held = k .held; cpu = k .cpu }
+counted heldClock k = record { bus = k .bus; held = k .held + 1; cpu = k .cpu }
+counted cpuClock k = record { bus = k .bus; held = k .held; cpu = k .cpu + 1 }
+
+-- what one clock is and does: its kind, whether a byte moves on it, what the counter held if it was put to zero, and the
+-- core after it
+pub record Clock : Type 0 where
+  pub kind : Kind
+  pub moves : Bool
+  pub zeroed : Option ℕ
+  pub next : Core
+
+abbrev pub clock : Kind → Bool → Option ℕ → Core → Clock
+clock k m z c = record { kind = k; moves = m; zeroed = z; next = c }
+
+-- the slot's length: the bus time, or with a prescaler 32 clocks for each unit of it, which contain the bus time
+unfoldable pub slotLength : ℕ → ℕ → ℕ
+slotLength prescaler bus = pick (eqb prescaler 0) bus (32 * prescaler)
+
+-- the slot that the registers start: its bus time, its length, and whether it is burst
+abbrev pub newSlot : Core → Slot
+newSlot c =
+    record {
+      elapsed = 0;
+      bus = c .a .cycle + c .b .cycle;
+      length = slotLength (c .control .prescaler) (c .a .cycle + c .b .cycle);
+      burst = c .control .burst;
+    }
+
+-- the core after a byte has moved: both pointers stepped, the counter one more, T set
+abbrev pub moved : Core → Core
+moved c =
+    withA (advanced (c .a))
+    (withB (advanced (c .b)) (withBlock (withCounter (c .block .counter + 1) (c .block)) (withStatus (withT true (c .status)) c)))
+
+-- this many clocks of the slot have elapsed
+abbrev pub withElapsed : ℕ → Core → Core
+withElapsed n c =
+    withSlot (record { elapsed = n; bus = c .slot .bus; length = c .slot .length; burst = c .slot .burst }) c
+
+-- the block has ended and the device is disabled
+abbrev pub stopped : Core → Core
+stopped c = disable (blockEnded c)
+
+-- the block has ended and begins again: the pointers reload, the counter becomes 0 and a new slot begins
+abbrev pub restarted : Core → Core
+restarted c = withSlot noSlot (load (blockEnded c))
+
+-- the end of a slot: below the block count a new slot begins; else E becomes 0, and the block begins again with auto
+-- restart and a block count above 0, or the device is disabled
+unfoldable pub slotEnd : Kind → Bool → Core → Clock
+slotEnd k m c =
+    pick (finished (c .block))
+    (pick (every (c .control .restart ∷ ltb 0 (blockCount (c .block)) ∷ []))
+    (clock k m (some (c .block .counter)) (restarted c))
+    (clock k m none (stopped c)))
+    (clock k m none (withSlot noSlot c))
+
+-- the byte moves on the last clock of the bus time
+abbrev pub movesAt : ℕ → Core → Bool
+movesAt n c = eqb n (c .slot .bus)
+
+-- the core with the byte moved where it moves on this clock
+unfoldable pub movedAt : ℕ → Core → Core
+movedAt n c = pick (movesAt n c) (moved c) c
+
+-- a clock within the bus time is a bus clock; a later one is waiting: for the processor in burst, with the bus held in
+-- continuous
+unfoldable pub kindAt : ℕ → Core → Kind
+kindAt n c = pick (leb n (c .slot .bus)) busClock (pick (c .slot .burst) cpuClock heldClock)
+
+-- the n-th clock of the running slot
+unfoldable pub slotClock : ℕ → Core → Clock
+slotClock n c =
+    pick (ltb n (c .slot .length))
+    (clock (kindAt n c) (movesAt n c) none (withElapsed n (movedAt n c)))
+    (slotEnd (kindAt n c) (movesAt n c) (movedAt n c))
+
+-- a slot's first clock looks at the block once more (ours), then fixes the slot's figures
+unfoldable pub firstClock : Core → Clock
+firstClock c = pick (finished (c .block)) (clock cpuClock false none (stopped c)) (slotClock 1 (withSlot (newSlot c) c))
+
+-- one clock
+unfoldable pub clockOf : Core → Clock
+clockOf c =
+    pick (c .enabled)
+    (pick (eqb (c .slot .elapsed) 0) (firstClock c) (slotClock (c .slot .elapsed + 1) c))
+    (clock cpuClock false none c)

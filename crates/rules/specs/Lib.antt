@@ -1,0 +1,22 @@
+-- The rules of the model, in the order of document 01.
+pub mod Choice
+pub mod Bytes
+pub mod Parts
+pub mod Ports
+pub mod Blocks
+pub mod Slots
+pub mod Pending
+pub mod PowerOn
+pub mod Validity
+pub mod Facts
+pub mod Commands
+pub mod Registers
+pub mod Readback
+pub mod Clock
+pub mod Buffers
+pub mod World
+pub mod Refusals
+pub mod Calls
+pub mod Rows
+pub mod WorkedExamples
+pub mod Opened

@@ -1,0 +1,30 @@
+-- Refusals: for each call the ordered list of tests, of which the first that hits gives its number.
+-- Assumes nothing.
+use Prim.Native.Nat.{ℕ, _+_, _%_}
+use mathlib.Core.Bool.{Bool, not}
+use mathlib.Core.List.{[], _∷_}
+use lib.Dec.{ltb, eqb}
+use lib.ListN.{length}
+use Rattle.rules.specs.Choice.{every, test, firstHit}
+use Rattle.rules.specs.Slots.{busHeld}
+use Rattle.rules.specs.Validity.{valid, most64}
+use Rattle.rules.specs.Buffers.{Store, Buffers}
+use Rattle.rules.specs.declared.Core.{Core}
+
+-- the low byte of the port number is neither 6B nor 0B
+abbrev pub wrongPort : ℕ → Bool
+wrongPort port = every (not (eqb (port % 256) 0x6B) ∷ not (eqb (port % 256) 0x0B) ∷ [])
+
+-- a port write or a port read; `sum` is the clocks counted so far
+unfoldable pub accessRefusal : Core → ℕ → ℕ → ℕ
+accessRefusal c sum port = firstHit (test 1 (not (valid c sum)) ∷ test 2 (wrongPort port) ∷ test 3 (busHeld c) ∷ [])
+
+-- a grant of n clocks; the memory has its own numbers, 4 for the flat one
+unfoldable pub grantRefusal : {M : Type 0} → Store M → Core → ℕ → Buffers M → ℕ → ℕ
+grantRefusal σ c sum b n =
+    firstHit
+    (test 1 (not (valid c sum))
+    ∷ test (σ .refusal (b .memory)) (not (eqb (σ .refusal (b .memory)) 0))
+    ∷ test 5 (not (eqb (length (b .latches)) 65536))
+    ∷ test 6 (ltb most64 (sum + n))
+    ∷ [])

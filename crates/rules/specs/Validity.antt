@@ -1,0 +1,69 @@
+-- Validity (document 01: soundness) as tests, each one of document 01's list and nothing else.
+-- Assumes nothing.
+use Prim.Native.Nat.{ℕ, _+_, _%_, _^_}
+use mathlib.Core.Bool.{Bool, not}
+use mathlib.Core.List.{[], _∷_}
+use lib.Dec.{leb, ltb, eqb}
+use Rattle.rules.specs.Choice.{pick, every, any}
+use Rattle.rules.specs.Blocks.{finished}
+use Rattle.rules.specs.Slots.{unmoved}
+use Rattle.rules.specs.Pending.{validPending}
+use Rattle.rules.specs.declared.Port.{Port}
+use Rattle.rules.specs.declared.Block.{Block}
+use Rattle.rules.specs.declared.Readback.{Readback}
+use Rattle.rules.specs.declared.Slot.{Slot}
+use Rattle.rules.specs.declared.Clocks.{Clocks}
+use Rattle.rules.specs.declared.Core.{Core}
+
+-- a cycle takes 2 to 4 clocks
+unfoldable pub validPort : Port → Bool
+validPort p = every (leb 2 (p .cycle) ∷ leb (p .cycle) 4 ∷ [])
+
+-- the mask has seven bits, and the read position is one of seven registers
+unfoldable pub validReadback : Readback → Bool
+validReadback r = every (leb (r .mask) 127 ∷ leb (r .position) 6 ∷ [])
+
+-- with no clock elapsed the slot's figures are 0 and continuous
+unfoldable pub restingSlot : Slot → Bool
+restingSlot s = every (eqb (s .bus) 0 ∷ eqb (s .length) 0 ∷ not (s .burst) ∷ [])
+
+-- a slot is its bus time, or a multiple of 32 from 32 to 8,160
+unfoldable pub validLength : Slot → Bool
+validLength s =
+    any (eqb (s .length) (s .bus) ∷ every (leb 32 (s .length) ∷ leb (s .length) 8160 ∷ eqb (s .length % 32) 0 ∷ []) ∷ [])
+
+-- with clocks elapsed the bus time is 4 to 8, the length is a slot's, and fewer clocks than it have elapsed
+unfoldable pub runningSlot : Slot → Bool
+runningSlot s = every (leb 4 (s .bus) ∷ leb (s .bus) 8 ∷ validLength s ∷ ltb (s .elapsed) (s .length) ∷ [])
+
+-- disabled means that no clock of a slot has elapsed
+unfoldable pub validSlot : Bool → Slot → Bool
+validSlot enabled s = pick (eqb (s .elapsed) 0) (restingSlot s) (every (enabled ∷ runningSlot s ∷ []))
+
+-- enabled with the byte not yet moved means that the counter is below the block count: not at or above it
+unfoldable pub validProgress : Bool → Block → Slot → Bool
+validProgress enabled b s = not (every (enabled ∷ unmoved s ∷ finished b ∷ []))
+
+unfoldable pub validCore : Core → Bool
+validCore c =
+    every
+    (validPort (c .a)
+    ∷ validPort (c .b)
+    ∷ leb (c .block .counter) 65536
+    ∷ validReadback (c .readback)
+    ∷ validPending (c .pending)
+    ∷ validSlot (c .enabled) (c .slot)
+    ∷ validProgress (c .enabled) (c .block) (c .slot)
+    ∷ [])
+
+-- the clocks counted so far
+abbrev pub total : Clocks → ℕ
+total k = k .bus + k .held + k .cpu
+
+-- the largest number of 64 bits
+abbrev pub most64 : ℕ
+most64 = 18446744073709551615
+
+-- a valid core, and a sum of clock counts that fits 64 bits
+unfoldable pub valid : Core → ℕ → Bool
+valid c sum = every (validCore c ∷ leb sum most64 ∷ [])

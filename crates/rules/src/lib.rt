@@ -1,0 +1,114 @@
+// What the device holds, part by part. Every part is plain data, handed over by value; no part is an enum, so that each
+// can cross to C as it stands. The rules over these types are the definitions in specs/.
+
+// One of the device's two ports, A or B.
+#[repr(C)]
+pub struct Port {
+    // Starting address, 0 to 65,535: what Load copies into the pointer.
+    pub address: u16,
+    // Address of the next byte, 0 to 65,535.
+    pub pointer: u16,
+    // The port is I/O; otherwise it is memory.
+    pub io: bool,
+    // Bits 5-4 of WR1 or WR2: 0 decrements the pointer, 1 increments it, any other value keeps it fixed.
+    pub step: u8,
+    // Cycle length in clocks; valid from 2 to 4.
+    pub cycle: u8,
+}
+
+// The block that is transferred.
+#[repr(C)]
+pub struct Block {
+    // Block length as written to WR0, 0 to 65,535.
+    pub length: u16,
+    // Bytes moved since the counter was last put to zero; valid up to 65,536.
+    pub counter: u32,
+    // Compatibility mode: Zilog, where a block is one byte longer than its length; otherwise zxn.
+    pub zilog: bool,
+}
+
+// How the block is transferred.
+#[repr(C)]
+pub struct Control {
+    // From port A to port B; otherwise from B to A.
+    pub forward: bool,
+    // Fixed time for each byte in units of 32 clocks, 0 to 255; 0 is off.
+    pub prescaler: u8,
+    // Burst mode; otherwise continuous.
+    pub burst: bool,
+    // Auto restart at the end of the block.
+    pub restart: bool,
+}
+
+// The two bits of the status byte that change.
+#[repr(C)]
+pub struct Status {
+    // Bit E: false once a whole block has been transferred.
+    pub e: bool,
+    // Bit T: true once a byte has been transferred.
+    pub t: bool,
+}
+
+// What the next port reads give.
+#[repr(C)]
+pub struct Readback {
+    // Read mask, bit k for register k; valid up to 127.
+    pub mask: u8,
+    // Read position (document 01: reading place), a register number; valid from 0 to 6.
+    pub position: u8,
+    // A status read is waiting: the next accepted read gives the status.
+    pub waiting: bool,
+}
+
+// The pending parameters (document 01: awaited), the next one first, 0 behind the last. Codes 1 to 10 are A address low
+// and high, length low and high, A timing, B timing, prescaler, B address low and high, read mask.
+#[repr(C)]
+pub struct Pending {
+    // Code of the next parameter, 0 for none.
+    pub first: u8,
+    // Code of the one after it, 0 for none.
+    pub second: u8,
+    // Code of the third, 0 for none.
+    pub third: u8,
+    // Code of the fourth, 0 for none.
+    pub fourth: u8,
+}
+
+// The running transfer slot (document 01: slot), all 0 and continuous while no clock of a slot has elapsed.
+#[repr(C)]
+pub struct Slot {
+    // Clocks elapsed (document 01: spent), 0 to 8,159.
+    pub elapsed: u16,
+    // Bus time in clocks, 4 to 8.
+    pub bus: u16,
+    // Length in clocks: the bus time, or a multiple of 32 up to 8,160.
+    pub length: u16,
+    // The wait after the bus time is given to the processor.
+    pub burst: bool,
+}
+
+// The clock counts (document 01: the three books). Their sum fits 64 bits in a valid device.
+#[repr(C)]
+pub struct Clocks {
+    // Clocks spent on the bus.
+    pub bus: u64,
+    // Clocks of waiting with the bus held.
+    pub held: u64,
+    // Clocks left to the processor.
+    pub cpu: u64,
+}
+
+// The device without its clock counts.
+#[repr(C)]
+pub struct Core {
+    pub a: Port,
+    pub b: Port,
+    pub block: Block,
+    pub control: Control,
+    pub status: Status,
+    pub readback: Readback,
+    pub pending: Pending,
+    // The device is enabled: a slot is running or about to begin.
+    pub enabled: bool,
+    pub slot: Slot,
+}
