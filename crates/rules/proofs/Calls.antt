@@ -7,7 +7,7 @@ use mathlib.Core.Bool.{Bool, true, false, not}
 use mathlib.Core.List.{List, [], _∷_, _++_}
 use lib.Dec.{ltb, eqb}
 use lib.ListN.{length}
-use borrow.Author.Tests.{leb-true, le-leb, le-ltb, ltb-false, eqb-true, eqb-false, eq-eqb, not-false, not-true}
+use borrow.Author.Tests.{leb-true, le-leb, le-ltb, ltb-false, eqb-true, eqb-false, eq-eqb, ne-eqb, not-false, not-true}
 use Rattle.rules.specs.Choice.{Test, test, firstHit}
 use Rattle.rules.specs.Slots.{busHeld}
 use Rattle.rules.specs.PowerOn.{powerOn, noClocks}
@@ -15,7 +15,7 @@ use Rattle.rules.specs.Validity.{validCore, valid, total, most64}
 use Rattle.rules.specs.Facts.{InRange, Kept}
 use Rattle.rules.specs.Registers.{written}
 use Rattle.rules.specs.Readback.{readByte}
-use Rattle.rules.specs.Buffers.{Store, Buffers}
+use Rattle.rules.specs.Buffers.{Store, flat, Buffers}
 use Rattle.rules.specs.World.{World, System, clocked}
 use Rattle.rules.specs.Refusals.{wrongPort, accessRefusal, grantRefusal}
 use Rattle.rules.specs.Calls.{Reply, Answer, refused, accepted, writeReply, readReply, beside, write, read, grantNumber, grant}
@@ -166,3 +166,25 @@ module _ {M : Type 0} (σ : Store M) where
       pick-cases
       (λ (a : Answer M). (a .number ≡ 0 → ⊥) → a ≡ record { number = grantNumber σ s n; byte = 0; system = s })
       _ _ _ (λ e n. absurd (n refl)) (λ e n. refl)
+
+-- ---- a grant by its number
+
+module _ {M : Type 0} (σ : Store M) where
+  pub grant-accepts : (s t : System M) (n : ℕ) → grantNumber σ s n ≡ 0 → t ≡ clocked σ n s → _≡_ {A = Answer M} (record { number = 0; byte = 0; system = t }) (grant σ s n)
+  unfolding grant
+  grant-accepts s t n e h = sym (pick-true _ _ _ (eq-eqb _ _ e) ∙ (λ i. record { number = 0; byte = 0; system = sym h i }))
+
+  pub grant-refuses : (s : System M) (n k : ℕ) → grantNumber σ s n ≡ k → (k ≡ 0 → ⊥) → _≡_ {A = Answer M} (record { number = k; byte = 0; system = s }) (grant σ s n)
+  unfolding grant
+  grant-refuses s n k e h =
+      sym
+      (pick-false _ _ _ (ne-eqb _ _ (λ z. h (sym e ∙ z))) ∙ (λ i. record { number = e i; byte = 0; system = s }))
+
+-- a flat memory that is not refused has 65,536 bytes
+pub flat-memory : (m : List ℕ) → flat .refusal m ≡ 0 → length m ≡ 65536
+flat-memory m e = let h = missed _ _ (tells 3 _) e in eqb-true _ _ (not-false _ (h .0))
+
+-- the sum of a valid device's clock counts fits
+pub valid-fits : (c : Core) (sum : ℕ) → valid c sum ≡ true → sum ≤ most64
+unfolding valid
+valid-fits c sum e = leb-true _ _ (all-true _ e .1 .0)

@@ -3,7 +3,7 @@
 use Prim.Native.Nat.{ℕ}
 use native.Mathlib.Omega.{arith}
 use mathlib.Core.Path.{_≡_, refl, sym, _∙_, ap}
-use mathlib.Core.Bool.{Bool, true, false, not}
+use mathlib.Core.Bool.{Bool, true, false, _&&_, _||_, not}
 use mathlib.Core.List.{List, [], _∷_}
 use Rattle.rules.specs.Choice.{pick, every, any}
 
@@ -67,6 +67,17 @@ unfolding every pick
 every-one-more true ts d e = e
 every-one-more false ts d e = clash d
 
+-- every test of a list, as strict code computes it
+pub every-last : (t : Bool) → every (t ∷ []) ≡ t
+unfolding every pick
+every-last true = refl
+every-last false = refl
+
+pub every-step : (s t : Bool) (ts : List Bool) → every (s ∷ t ∷ ts) ≡ s && every (t ∷ ts)
+unfolding every pick
+every-step true t ts = refl
+every-step false t ts = refl
+
 -- the tests of a list as facts
 abbrev pub All : List Bool → Type 0
 All [] = Unit {0}
@@ -100,3 +111,17 @@ any-cases false ts e f g = g e
 pub any-none {ℓ} : {X : Type ℓ} → any [] ≡ true → X
 unfolding any
 any-none e = clash e
+
+-- some test of a list, as strict code computes it
+pub any-last : (t : Bool) → any (t ∷ []) ≡ t
+unfolding any pick
+any-last true = refl
+any-last false = refl
+
+pub any-step : (s t : Bool) (ts : List Bool) → any (s ∷ t ∷ ts) ≡ s || any (t ∷ ts)
+unfolding any pick
+any-step true t ts = refl
+any-step false t ts = refl
+
+-- the tests of a list, one after the other, as strict code computes them
+pub ruleset strict = (every-last, every-step, any-last, any-step)

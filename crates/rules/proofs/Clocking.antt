@@ -14,7 +14,7 @@ use Rattle.rules.specs.Parts.{withCounter, withBlock, withSlot}
 use Rattle.rules.specs.Blocks.{blockCount, finished}
 use Rattle.rules.specs.Slots.{noSlot, unmoved}
 use Rattle.rules.specs.Facts.{Kept, Resting, SlotLength, busTime, prescaled, Running, ValidSlot, resting, running}
-use Rattle.rules.specs.Clock.{Kind, Clock, slotLength, newSlot, moved, withElapsed, stopped, restarted, slotEnd, movesAt, movedAt, kindAt, slotClock, firstClock, clockOf}
+use Rattle.rules.specs.Clock.{Clock, slotLength, newSlot, moved, withElapsed, movesAt, movedAt, Ending, slotEnd, clockEnd, slotClock, firstClock, clockOf}
 use Rattle.rules.specs.declared.Block.{Block}
 use Rattle.rules.specs.declared.Slot.{Slot}
 use Rattle.rules.specs.declared.Core.{Core}
@@ -69,12 +69,12 @@ rest-slot : (t : Bool) → ValidSlot t noSlot
 rest-slot t = resting (record { elapsed = refl; bus = refl; length = refl; burst = refl })
 
 -- the end of a slot
-end-kept : (k : Kind) (m : Bool) (c : Core) → c .enabled ≡ true → SteadyCore c → Kept (slotEnd k m c .next)
+end-kept : (c : Core) → c .enabled ≡ true → SteadyCore c → Kept (slotEnd c .core)
 unfolding slotEnd
-end-kept k m c on s =
-    pick-cases (λ (x : Clock). Kept (x .next)) _ _ _
+end-kept c on s =
+    pick-cases (λ (x : Ending). Kept (x .core)) _ _ _
     (λ e.
-    pick-cases (λ (x : Clock). Kept (x .next)) _ _ _
+    pick-cases (λ (x : Ending). Kept (x .core)) _ _ _
     (λ (d : every (c .control .restart ∷ ltb 0 (blockCount (c .block)) ∷ []) ≡ true).
     kept-from _
     (steady-a (steady-b (steady-block s _ (omega arith) (s .length)) (good-loaded _ (s .b))) (good-loaded _ (s .a)))
@@ -82,21 +82,24 @@ end-kept k m c on s =
     (λ d. kept-from _ s (rest-slot _) (λ o u. clash o)))
     (λ e. kept-from _ s (rest-slot _) (λ o u. e))
 
+-- the end of a clock, where up to the bus time the block is not finished but for the byte just moved
+clock-end-kept : (n : ℕ) (c : Core) → c .enabled ≡ true → SteadyCore c → (n < c .slot .length → ValidSlot (c .enabled) (withElapsed n c .slot)) → (unmoved (withElapsed n c .slot) ≡ true → finished (c .block) ≡ false) → Kept (clockEnd n c .core)
+unfolding clockEnd
+clock-end-kept n c on s v u =
+    pick-cases (λ (x : Ending). Kept (x .core)) _ _ _
+    (λ (h : ltb n (c .slot .length) ≡ true). kept-from _ s (v (ltb-true _ _ h)) (λ o m. u m))
+    (λ h. end-kept c on s)
+
 slot-kept : (n : ℕ) (c : Core) → SteadyCore c → Turn n c → Kept (slotClock n c .next)
 unfolding slotClock movedAt
 slot-kept n c s t =
-    pick-cases (λ (x : Clock). Kept (x .next)) _ _ _
-    (λ (h : ltb n (c .slot .length) ≡ true).
-    let v = turn-running n c t (ltb-true _ _ h) in
-    pick-cases (λ d. Kept (withElapsed n d)) (movesAt n c) (moved c) c
+    pick-cases (λ d. Kept (clockEnd n d .core)) (movesAt n c) (moved c) c
     (λ e.
-    kept-from _ (moved-steady c s (t .unfinished (le-of-eq (eqb-true _ _ e)))) v
-    (λ o u. absurd (unmoved-cases _ u (λ z. omega (arith, t .first)) (λ z. omega (arith, eqb-true n (c .slot .bus) e)))))
-    (λ e. kept-from _ s v (λ o u. unmoved-cases _ u (λ z. absurd (omega (arith, t .first))) (λ z. t .unfinished (le-of-lt z)))))
-    (λ h.
-    pick-cases (λ d. Kept (slotEnd (kindAt n c) (movesAt n c) d .next)) (movesAt n c) (moved c) c
-    (λ e. end-kept _ _ (moved c) (t .on) (moved-steady c s (t .unfinished (le-of-eq (eqb-true _ _ e)))))
-    (λ e. end-kept _ _ c (t .on) s))
+    clock-end-kept n (moved c) (t .on) (moved-steady c s (t .unfinished (le-of-eq (eqb-true _ _ e)))) (turn-running n c t)
+    (λ u. absurd (unmoved-cases _ u (λ z. omega (arith, t .first)) (λ z. omega (arith, eqb-true n (c .slot .bus) e)))))
+    (λ e.
+    clock-end-kept n c (t .on) s (turn-running n c t)
+    (λ u. unmoved-cases _ u (λ z. absurd (omega (arith, t .first))) (λ z. t .unfinished (le-of-lt z))))
 
 -- ---- one clock
 

@@ -1,12 +1,16 @@
 pub mod Choice
+pub mod Bytes
 pub mod Validity
 pub mod Slots
 pub mod Ports
 pub mod Parameters
+pub mod Selection
 pub mod Steady
 pub mod Writing
 pub mod Reading
 pub mod Clocking
 pub mod Counting
+pub mod Spans
 pub mod Calls
 pub mod WorkedExamples
+pub mod Slips

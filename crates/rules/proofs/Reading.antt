@@ -1,27 +1,44 @@
--- An accepted read keeps a valid core valid: the register after one of seven is one of seven.
+-- Reading back: the search for the next register step by step, and an accepted read keeps a valid core valid.
 -- Assumes nothing.
-use Prim.Native.Nat.{ℕ, zero, suc, _+_, _≤_}
+use Prim.Native.Nat.{ℕ, zero, suc, _-_, _≤_}
 use native.Mathlib.Omega.{arith}
-use mathlib.Core.Path.{_≡_}
+use mathlib.Core.Path.{_≡_, refl, _∙_, ap}
 use mathlib.Core.Bool.{true, false}
-use lib.Dec.{eqb}
-use borrow.Author.Tests.{eqb-false}
+use lib.Dec.{ltb}
+use borrow.Author.Tests.{ltb-true}
+use Rattle.rules.specs.Bytes.{bit}
 use Rattle.rules.specs.Readback.{after, seek, chosen, Byte, readByte}
 use Rattle.rules.specs.Facts.{Kept}
 use Rattle.rules.specs.declared.Readback.{Readback}
 use Rattle.rules.specs.declared.Core.{Core}
-use Rattle.rules.proofs.Choice.{pick-cases, pick-both}
+use Rattle.rules.proofs.Choice.{pick-cases, pick-both, pick-true, pick-false}
 use Rattle.rules.proofs.Steady.{SteadyCore, steady-readback, kept-from, kept-steady, kept-slot, kept-progress}
 
-after-small : (k : ℕ) → k ≤ 6 → after k ≤ 6
+after-small : (k : ℕ) → after k ≤ 6
 unfolding after
-after-small k h =
-    pick-cases (λ n. n ≤ 6) _ _ _ (λ e. omega arith) (λ (e : eqb k 6 ≡ false). let n = eqb-false k 6 e in omega (arith, n))
+after-small k = pick-cases (λ n. n ≤ 6) _ _ _ (λ (e : ltb k 6 ≡ true). omega (arith, ltb-true k 6 e)) (λ e. omega arith)
 
 seek-small : (n mask k : ℕ) → k ≤ 6 → seek n mask k ≤ 6
 unfolding seek
 seek-small zero mask k h = h
-seek-small (suc n) mask k h = pick-both (λ m. m ≤ 6) _ _ _ h (seek-small n mask (after k) (after-small k h))
+seek-small (suc n) mask k h = pick-both (λ m. m ≤ 6) _ _ _ h (seek-small n mask (after k) (after-small k))
+
+-- the search, one place after the other
+pub seek-end : (n mask k : ℕ) → n ≡ 0 → seek n mask k ≡ k
+unfolding seek
+seek-end zero mask k e = refl
+seek-end (suc n) mask k e = absurd (omega arith)
+
+pub seek-here : (n mask k : ℕ) → bit k mask ≡ true → seek n mask k ≡ k
+unfolding seek
+seek-here zero mask k e = refl
+seek-here (suc n) mask k e = pick-true _ _ _ e
+
+pub seek-on : (n mask k : ℕ) → (n ≡ 0 → ⊥) → bit k mask ≡ false → seek n mask k ≡ seek (n - 1) mask (after k)
+unfolding seek
+seek-on zero mask k h e = absurd (h refl)
+seek-on (suc n) mask k h e =
+    pick-false _ _ _ e ∙ ap (λ (m : ℕ). seek m mask (after k)) (let z : n ≡ suc n - 1 = omega arith in z)
 
 -- the chosen register is one of seven
 pub chosen-small : (mask position : ℕ) → position ≤ 6 → chosen mask position ≤ 6
@@ -39,5 +56,5 @@ read-kept c k =
     (pick-both (λ (b : Byte). Kept (b .core)) _ _ _ k
     (kept-from _
     (steady-readback s _
-    (record { mask = s .readback .mask; position = after-small _ (chosen-small _ _ (s .readback .position)) }))
+    (record { mask = s .readback .mask; position = after-small _ }))
     v p))

@@ -1,6 +1,6 @@
 -- Validity: the tests are true exactly where the facts hold. Each test is taken apart by the laws of `&&`, `||` and `pick`.
 -- Assumes nothing.
-use Prim.Native.Nat.{ℕ}
+use Prim.Native.Nat.{ℕ, _≤_, _<_}
 use native.Mathlib.Omega.{arith}
 use mathlib.Core.Path.{_≡_, sym, _∙_}
 use mathlib.Core.Bool.{Bool, true, false}
@@ -121,3 +121,21 @@ facts-progress t b s f =
     either (every (t ∷ unmoved s ∷ finished b ∷ []))
     (λ d. let h = all-true _ d in clash (sym (f (h .0) (h .1 .0)) ∙ h .1 .1 .0))
     (λ d. not-of-false _ d)
+
+-- ---- bounds that code relies on
+
+slot-elapsed : (t : Bool) (s : Slot) → ValidSlot t s → s .elapsed < 8160
+slot-elapsed t s (resting r) = omega arith
+slot-elapsed t s (running on r) = length-most (r .length)
+  where
+    length-most : SlotLength s → s .elapsed < 8160
+    length-most (busTime e) = omega arith
+    length-most (prescaled l m e) = omega arith
+
+pub record Bounded (c : Core) : Type 0 where
+  pub counter : c .block .counter ≤ 65536
+  pub elapsed : c .slot .elapsed < 8160
+
+pub valid-bounded : (c : Core) → validCore c ≡ true → Bounded c
+valid-bounded c e =
+    let v = core-parts c e in record { counter = v .counter; elapsed = slot-elapsed _ _ (slot-facts _ _ (v .slot)) }

@@ -10,7 +10,7 @@ use Rattle.rules.specs.Bytes.{bit}
 use Rattle.rules.specs.Slots.{noSlot, busHeld, unmoved}
 use Rattle.rules.specs.Pending.{bTiming, nothing}
 use Rattle.rules.specs.Facts.{Kept, ValidSlot, resting, running}
-use Rattle.rules.specs.Commands.{enable, reset, continue, load, restartReading, askStatus, command}
+use Rattle.rules.specs.Commands.{enable, reset, continue, load, restartReading, askStatus, readingCommand, command}
 use Rattle.rules.specs.Registers.{wr3, register, parameter, effect, written}
 use Rattle.rules.specs.declared.Slot.{Slot}
 use Rattle.rules.specs.declared.Core.{Core}
@@ -65,6 +65,14 @@ module _ (byte : ℕ) (c : Core) (f : Settled (c .enabled) (c .slot)) (s : Stead
   reread-steady : SteadyCore (restartReading c)
   reread-steady = steady-readback s _ (record { mask = s .readback .mask; position = omega arith })
 
+  reading-kept : Kept (readingCommand byte c)
+  unfolding readingCommand
+  reading-kept =
+      pick-both Kept _ _ _ (kept _ f s)
+      (pick-both Kept _ _ _ (kept _ f asked-steady)
+      (pick-both Kept _ _ _ (kept _ f reread-steady)
+      (pick-both Kept _ _ _ (kept _ f (steady-pending s _ mask-valid)) (kept c f s))))
+
   command-kept : Kept (command byte c)
   unfolding command
   command-kept =
@@ -73,12 +81,7 @@ module _ (byte : ℕ) (c : Core) (f : Settled (c .enabled) (c .slot)) (s : Stead
       (pick-both Kept _ _ _ (kept _ f (steady-b s (good-reset _ (s .b))))
       (pick-both Kept _ _ _ (kept _ f load-steady)
       (pick-both Kept _ _ _ (kept _ f continue-steady)
-      (pick-both Kept _ _ _ enable-kept
-      (pick-both Kept _ _ _ (kept _ off s)
-      (pick-both Kept _ _ _ (kept _ f s)
-      (pick-both Kept _ _ _ (kept _ f asked-steady)
-      (pick-both Kept _ _ _ (kept _ f reread-steady)
-      (pick-both Kept _ _ _ (kept _ f (steady-pending s _ mask-valid)) (kept c f s)))))))))))
+      (pick-both Kept _ _ _ enable-kept (pick-both Kept _ _ _ (kept _ off s) reading-kept))))))
 
   -- ---- registers
 

@@ -8,6 +8,7 @@ use lib.Dec.{eqb}
 use lib.ListN.{length, getD, set}
 use Rattle.rules.specs.Choice.{pick, test, firstHit}
 use Rattle.rules.specs.declared.Port.{Port}
+use Rattle.rules.specs.declared.Place.{Place}
 use Rattle.rules.specs.declared.Core.{Core}
 
 -- a kind of memory: the byte at an address, the memory with a byte stored at one, and the number with which a grant refuses
@@ -31,10 +32,6 @@ pub record Buffers (M : Type 0) : Type 0 where
   pub latches : List ℕ
 
 -- where a port's next byte lies
-pub record Place : Type 0 where
-  pub address : ℕ
-  pub io : Bool
-
 abbrev pub placeOf : Port → Place
 placeOf p = record { address = p .pointer; io = p .io }
 

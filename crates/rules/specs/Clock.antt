@@ -69,16 +69,6 @@ stopped c = disable (blockEnded c)
 abbrev pub restarted : Core → Core
 restarted c = withSlot noSlot (load (blockEnded c))
 
--- the end of a slot: below the block count a new slot begins; else E becomes 0, and the block begins again with auto
--- restart and a block count above 0, or the device is disabled
-unfoldable pub slotEnd : Kind → Bool → Core → Clock
-slotEnd k m c =
-    pick (finished (c .block))
-    (pick (every (c .control .restart ∷ ltb 0 (blockCount (c .block)) ∷ []))
-    (clock k m (some (c .block .counter)) (restarted c))
-    (clock k m none (stopped c)))
-    (clock k m none (withSlot noSlot c))
-
 -- the byte moves on the last clock of the bus time
 abbrev pub movesAt : ℕ → Core → Bool
 movesAt n c = eqb n (c .slot .bus)
@@ -92,12 +82,32 @@ movedAt n c = pick (movesAt n c) (moved c) c
 unfoldable pub kindAt : ℕ → Core → Kind
 kindAt n c = pick (leb n (c .slot .bus)) busClock (pick (c .slot .burst) cpuClock heldClock)
 
+-- how a clock ends: what the counter held if it was put to zero, and the core
+pub record Ending : Type 0 where
+  pub zeroed : Option ℕ
+  pub core : Core
+
+abbrev pub ending : Option ℕ → Core → Ending
+ending z c = record { zeroed = z; core = c }
+
+-- the end of a slot: below the block count a new slot begins; else E becomes 0, and the block begins again with auto
+-- restart and a block count above 0, or the device is disabled
+unfoldable pub slotEnd : Core → Ending
+slotEnd c =
+    pick (finished (c .block))
+    (pick (every (c .control .restart ∷ ltb 0 (blockCount (c .block)) ∷ []))
+    (ending (some (c .block .counter)) (restarted c))
+    (ending none (stopped c)))
+    (ending none (withSlot noSlot c))
+
+-- the end of the n-th clock of a slot
+unfoldable pub clockEnd : ℕ → Core → Ending
+clockEnd n c = pick (ltb n (c .slot .length)) (ending none (withElapsed n c)) (slotEnd c)
+
 -- the n-th clock of the running slot
 unfoldable pub slotClock : ℕ → Core → Clock
 slotClock n c =
-    pick (ltb n (c .slot .length))
-    (clock (kindAt n c) (movesAt n c) none (withElapsed n (movedAt n c)))
-    (slotEnd (kindAt n c) (movesAt n c) (movedAt n c))
+    let end : Ending = clockEnd n (movedAt n c) in clock (kindAt n c) (movesAt n c) (end .zeroed) (end .core)
 
 -- a slot's first clock looks at the block once more (ours), then fixes the slot's figures
 unfoldable pub firstClock : Core → Clock

@@ -10,6 +10,7 @@ use Rattle.rules.specs.Blocks.{finished}
 use Rattle.rules.specs.Slots.{noSlot}
 use Rattle.rules.specs.Pending.{maskAsked}
 use Rattle.rules.specs.PowerOn.{statusAtReset, readbackAtReset}
+use Rattle.rules.specs.declared.Control.{Control}
 use Rattle.rules.specs.declared.Core.{Core}
 
 -- 83: disabled, and a running wait is dropped
@@ -25,6 +26,10 @@ blockEnded c = withStatus (withE false (c .status)) c
 unfoldable pub enable : Core → Core
 enable c = pick (c .enabled) c (pick (finished (c .block)) (blockEnded c) (withEnabled true c))
 
+-- prescaler 0 and no auto restart
+abbrev pub controlAtReset : Control → Control
+controlAtReset k = record { forward = k .forward; prescaler = 0; burst = k .burst; restart = false }
+
 -- C3 (ours in detail): disabled, a running wait dropped, both cycles 4, prescaler 0, auto restart off, status 3A, mask 7F,
 -- reading from the start, no status read waiting; everything else stays
 abbrev pub reset : Core → Core
@@ -33,7 +38,7 @@ reset c =
       a = resetTiming (c .a);
       b = resetTiming (c .b);
       block = c .block;
-      control = record { forward = c .control .forward; prescaler = 0; burst = c .control .burst; restart = false };
+      control = controlAtReset (c .control);
       status = statusAtReset;
       readback = readbackAtReset;
       pending = c .pending;
@@ -57,6 +62,14 @@ restartReading c = withReadback (withPosition 0 (c .readback)) c
 abbrev pub askStatus : Core → Core
 askStatus c = withReadback (withWaiting true (c .readback)) c
 
+-- the commands on the status and on reading
+unfoldable pub readingCommand : ℕ → Core → Core
+readingCommand byte c =
+    pick (eqb byte 0x8B) (withStatus statusAtReset c)
+    (pick (eqb byte 0xBF) (askStatus c)
+    (pick (eqb byte 0xA7) (restartReading c) (pick (eqb byte 0xBB) (withPending maskAsked c) c)))
+
+-- all commands; one that is not listed, and B3, changes nothing
 unfoldable pub command : ℕ → Core → Core
 command byte c =
     pick (eqb byte 0xC3) (reset c)
@@ -64,9 +77,4 @@ command byte c =
     (pick (eqb byte 0xCB) (withB (resetTiming (c .b)) c)
     (pick (eqb byte 0xCF) (load c)
     (pick (eqb byte 0xD3) (continue c)
-    (pick (eqb byte 0x87) (enable c)
-    (pick (eqb byte 0x83) (disable c)
-    (pick (eqb byte 0x8B) (withStatus statusAtReset c)
-    (pick (eqb byte 0xBF) (askStatus c)
-    (pick (eqb byte 0xA7) (restartReading c)
-    (pick (eqb byte 0xBB) (withPending maskAsked c) c))))))))))
+    (pick (eqb byte 0x87) (enable c) (pick (eqb byte 0x83) (disable c) (readingCommand byte c)))))))

@@ -15,8 +15,10 @@ pub mod Readback
 pub mod Clock
 pub mod Buffers
 pub mod World
+pub mod Spans
 pub mod Refusals
 pub mod Calls
 pub mod Rows
 pub mod WorkedExamples
+pub mod Slips
 pub mod Opened

@@ -6,16 +6,16 @@ use Rattle.rules.specs.Blocks.{blockCount, finished}
 use Rattle.rules.specs.Slots.{waiting, busHeld, unmoved}
 use Rattle.rules.specs.Pending.{ask, follows, validPending}
 use Rattle.rules.specs.Validity.{validPort, validReadback, restingSlot, validLength, runningSlot, validSlot, validProgress, validCore, valid}
-use Rattle.rules.specs.Commands.{enable, command}
+use Rattle.rules.specs.Commands.{enable, readingCommand, command}
 use Rattle.rules.specs.Registers.{wr3, register, parameter, effect}
 use Rattle.rules.specs.Readback.{statusByte, registerByte, after, seek, readByte}
-use Rattle.rules.specs.Clock.{slotLength, slotEnd, movedAt, kindAt, slotClock, firstClock, clockOf}
+use Rattle.rules.specs.Clock.{slotLength, movedAt, kindAt, slotEnd, clockEnd, slotClock, firstClock, clockOf}
 use Rattle.rules.specs.Buffers.{source, destination, byteAt, put}
 use Rattle.rules.specs.World.{buffersAfter, clocked}
 use Rattle.rules.specs.Refusals.{accessRefusal, grantRefusal}
 use Rattle.rules.specs.Calls.{writeReply, readReply, grant}
-use Rattle.rules.specs.Rows.{same, placed, sendAll, expectAll, perform, rowFailures, failures}
+use Rattle.rules.specs.Rows.{same, placed, sendAll, expectAll, movesSo, perform, played, rowFailures, failures}
 
 unfoldable pub opened : Unit {0}
-unfolding pick every any firstHit cycleOf stepped blockCount finished waiting busHeld unmoved ask follows validPending validPort validReadback restingSlot validLength runningSlot validSlot validProgress validCore valid enable command wr3 register parameter effect statusByte registerByte after seek readByte slotLength slotEnd movedAt kindAt slotClock firstClock clockOf source destination byteAt put buffersAfter clocked accessRefusal grantRefusal writeReply readReply grant same placed sendAll expectAll perform rowFailures failures
+unfolding pick every any firstHit cycleOf stepped blockCount finished waiting busHeld unmoved ask follows validPending validPort validReadback restingSlot validLength runningSlot validSlot validProgress validCore valid enable readingCommand command wr3 register parameter effect statusByte registerByte after seek readByte slotLength movedAt kindAt slotEnd clockEnd slotClock firstClock clockOf source destination byteAt put buffersAfter clocked accessRefusal grantRefusal writeReply readReply grant same placed sendAll expectAll movesSo perform played rowFailures failures
 opened = tt

@@ -2,7 +2,7 @@
 -- Assumes nothing.
 use Prim.Native.Nat.{ℕ, zero, suc, _+_}
 use mathlib.Core.Bool.{Bool, false}
-use lib.Dec.{eqb}
+use lib.Dec.{ltb, eqb}
 use Rattle.rules.specs.Choice.{pick}
 use Rattle.rules.specs.Bytes.{bit, lowByte, highByte}
 use Rattle.rules.specs.Parts.{withPosition, withWaiting, withReadback}
@@ -27,7 +27,7 @@ registerByte k c =
 
 -- the register after k, going round
 unfoldable pub after : ℕ → ℕ
-after k = pick (eqb k 6) 0 (k + 1)
+after k = pick (ltb k 6) (k + 1) 0
 
 -- the first register in the mask among so many from k on, going round; where there is none, the one after them
 unfoldable pub seek : ℕ → ℕ → ℕ → ℕ

@@ -3,18 +3,20 @@
 -- Assumes nothing.
 use Prim.Native.Nat.{ℕ, suc}
 use Prim.Native.String.{String}
-use mathlib.Core.Bool.{Bool, true, false, _&&_, Bool·beq}
+use mathlib.Core.Bool.{Bool, true, false, Bool·beq}
+use mathlib.Core.Option.{Option, none, some}
 use mathlib.Core.List.{List, [], _∷_, _++_}
 use lib.Dec.{eqb}
 use lib.ListN.{drop, set, replicate}
-use Rattle.rules.specs.Choice.{pick}
+use Rattle.rules.specs.Choice.{pick, every}
 use Rattle.rules.specs.PowerOn.{powerOn, noClocks}
+use Rattle.rules.specs.Validity.{valid, total}
 use Rattle.rules.specs.Readback.{statusByte}
 use Rattle.rules.specs.Parts.{withCounter, withT, withBlock, withStatus}
 use Rattle.rules.specs.Blocks.{blockCount}
 use Rattle.rules.specs.Clock.{stopped}
 use Rattle.rules.specs.Buffers.{Buffers, flat}
-use Rattle.rules.specs.World.{World, System}
+use Rattle.rules.specs.World.{World, System, Move, note}
 use Rattle.rules.specs.Calls.{Answer, write, read, grant}
 use Rattle.rules.specs.declared.Core.{Core}
 
@@ -52,6 +54,14 @@ pub data Action : Type 0 where
   suppose : ℕ → Action
   -- it is supposed that the clock counts are these
   supposeCounts : ℕ → ℕ → ℕ → Action
+  -- a grant of this many clocks is refused with this number
+  clocksRefused : ℕ → ℕ → Action
+  -- this figure of the core is this
+  figure : (Core → ℕ) → ℕ → Action
+  -- with the core changed so, the device is valid or not
+  changed : (Core → Core) → Bool → Action
+  -- the next clock moves a byte: from this address, memory or I/O, to that one, and the byte
+  nextMove : ℕ → Bool → ℕ → Bool → ℕ → Action
 
 pub record Row : Type 0 where
   pub name : String
@@ -71,7 +81,7 @@ seen t s = record { right = t; system = s }
 unfoldable pub same : List ℕ → List ℕ → Bool
 same [] ys = true
 same (x ∷ xs) [] = false
-same (x ∷ xs) (y ∷ ys) = eqb x y && same xs ys
+same (x ∷ xs) (y ∷ ys) = pick (eqb x y) (same xs ys) false
 
 abbrev pub withBuffers : List ℕ → List ℕ → System (List ℕ) → System (List ℕ)
 withBuffers m l s =
@@ -87,7 +97,7 @@ placed at (x ∷ xs) l = set (placed (suc at) xs l) at x
 
 -- an answer with this number and this byte is right, if all was right before it
 abbrev pub answered : ℕ → ℕ → Seen → Answer (List ℕ) → Seen
-answered number byte r a = seen (r .right && (eqb (a .number) number && eqb (a .byte) byte)) (a .system)
+answered number byte r a = seen (every (r .right ∷ eqb (a .number) number ∷ eqb (a .byte) byte ∷ [])) (a .system)
 
 unfoldable pub sendAll : ℕ → List ℕ → Seen → Seen
 sendAll port [] r = r
@@ -101,6 +111,18 @@ expectAll port (x ∷ xs) r = expectAll port xs (answered 0 x r (read flat (r .s
 abbrev pub supposed : ℕ → Core → Core
 supposed n c = stopped (withStatus (withT true (c .status)) (withBlock (withCounter n (c .block)) c))
 
+-- the move is this one
+unfoldable pub movesSo : ℕ → Bool → ℕ → Bool → ℕ → Option Move → Bool
+movesSo from fromIo to toIo byte none = false
+movesSo from fromIo to toIo byte (some x) =
+    every
+    (eqb (x .from .address) from
+    ∷ Bool·beq (x .from .io) fromIo
+    ∷ eqb (x .to .address) to
+    ∷ Bool·beq (x .to .io) toIo
+    ∷ eqb (x .byte) byte
+    ∷ [])
+
 unfoldable pub perform : Action → System (List ℕ) → Seen
 perform (fill at bytes) s =
     seen true (withBuffers (placed at bytes (s .world .buffers .memory)) (s .world .buffers .latches) s)
@@ -112,12 +134,14 @@ perform (expect port bytes) s = expectAll port bytes (seen true s)
 perform (expectRefused port number) s = answered number 0 (seen true s) (read flat s port)
 perform (clocks n) s = answered 0 0 (seen true s) (grant flat s n)
 perform (lend m l n number) s =
-    seen (eqb (grant flat (withBuffers (replicate m 0) (replicate l 0) s) n .number) number) s
+    let a : Answer (List ℕ) = grant flat (withBuffers (replicate m 0) (replicate l 0) s) n in
+    seen (every (eqb (a .number) number ∷ eqb (a .byte) 0 ∷ []))
+    (record { world = record { core = a .system .world .core; buffers = s .world .buffers }; clocks = a .system .clocks })
 perform (counts bus held cpu) s =
-    seen (eqb (s .clocks .bus) bus && (eqb (s .clocks .held) held && eqb (s .clocks .cpu) cpu)) s
+    seen (every (eqb (s .clocks .bus) bus ∷ eqb (s .clocks .held) held ∷ eqb (s .clocks .cpu) cpu ∷ [])) s
 perform (memory at bytes) s = seen (same bytes (drop at (s .world .buffers .memory))) s
 perform (latches at bytes) s = seen (same bytes (drop at (s .world .buffers .latches))) s
-perform (pointers a b) s = seen (eqb (s .world .core .a .pointer) a && eqb (s .world .core .b .pointer) b) s
+perform (pointers a b) s = seen (every (eqb (s .world .core .a .pointer) a ∷ eqb (s .world .core .b .pointer) b ∷ [])) s
 perform (counter n) s = seen (eqb (s .world .core .block .counter) n) s
 perform (status byte) s = seen (eqb (statusByte (s .world .core .status)) byte) s
 perform (enabled t) s = seen (Bool·beq (s .world .core .enabled) t) s
@@ -125,14 +149,33 @@ perform (count n) s = seen (eqb (blockCount (s .world .core .block)) n) s
 perform (suppose n) s = seen true (withCore (supposed n (s .world .core)) s)
 perform (supposeCounts bus held cpu) s =
     seen true (record { world = s .world; clocks = record { bus = bus; held = held; cpu = cpu } })
+perform (clocksRefused n number) s = answered number 0 (seen true s) (grant flat s n)
+perform (figure f n) s = seen (eqb (f (s .world .core)) n) s
+perform (changed f t) s = seen (Bool·beq (valid (f (s .world .core)) (total (s .clocks))) t) s
+perform (nextMove from fromIo to toIo byte) s = seen (movesSo from fromIo to toIo byte (note flat (s .world) .move)) s
 
--- power-on, with a memory and latches of zero bytes
+-- power-on with zero buffers, but for six source bytes at 1000 and six others at 2000
 abbrev pub start : System (List ℕ)
 start =
     record {
-      world = record { core = powerOn; buffers = record { memory = replicate 65536 0; latches = replicate 65536 0 } };
+      world =
+          record {
+            core = powerOn;
+            buffers =
+                record {
+                  memory =
+                      placed 0x1000 (0xA1 ∷ 0xA2 ∷ 0xA3 ∷ 0xA4 ∷ 0xA5 ∷ 0xA6 ∷ [])
+                      (placed 0x2000 (0xE1 ∷ 0xE2 ∷ 0xE3 ∷ 0xE4 ∷ 0xE5 ∷ 0xE6 ∷ []) (replicate 65536 0));
+                  latches = replicate 65536 0;
+                };
+          };
       clocks = noClocks;
     }
+
+-- the system after a list of actions
+unfoldable pub played : List Action → System (List ℕ) → System (List ℕ)
+played [] s = s
+played (x ∷ xs) s = played xs (perform x s .system)
 
 -- an action of a row that was not right, counted from 0
 pub record Failure : Type 0 where

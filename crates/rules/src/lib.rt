@@ -87,6 +87,15 @@ pub struct Slot {
     pub burst: bool,
 }
 
+// Where a byte lies: in memory or in the I/O latches.
+#[repr(C)]
+pub struct Place {
+    // Address, 0 to 65,535.
+    pub address: u16,
+    // In the latches; otherwise in memory.
+    pub io: bool,
+}
+
 // The clock counts (document 01: the three books). Their sum fits 64 bits in a valid device.
 #[repr(C)]
 pub struct Clocks {

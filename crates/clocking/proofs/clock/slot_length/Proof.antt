@@ -1,0 +1,23 @@
+use Rattle.rules.specs.Choice.{pick}
+use Rattle.rules.specs.Clock.{slotLength}
+use borrow.Author.Tests.{eq-eqb, ne-eqb}
+use borrow.Author.Needs.{needs}
+use Rattle.clocking.proofs.clock.slot_length.Statement.{statement}
+use Rattle.clocking.proofs.clock.slot_length.Tie as tie
+
+returns : tie.Need-returns
+unfolding slotLength pick
+returns c = simp (eq-eqb _ _ (c .if1 .taken))
+
+wide-requires : tie.Need-wide-requires
+wide-requires c κs = search needs
+
+mul-result : tie.Need-mul-result
+mul-result c = search needs
+
+returns-2 : tie.Need-returns-2
+unfolding slotLength pick
+returns-2 c = simp (ne-eqb _ _ (c .before .if1 .left), c .wide .ensures)
+
+pub slot-length-spec : {M : Type 1} → statement M
+slot-length-spec = tie.close (tie.spec returns wide-requires mul-result returns-2)

@@ -1,0 +1,324 @@
+// One clock of the core, and the span of clocks that it answers.
+ghost use mathlib.Core.Path.{_≡_};
+ghost use Prim.Native.Nat.{_<_};
+ghost use mathlib.Core.Bool.{true};
+ghost use mathlib.Core.List.{[], _∷_};
+ghost use lib.Dec.{ltb};
+ghost use Rattle.rules.specs.Choice.{every};
+ghost use Rattle.rules.specs.Parts.{withSlot};
+ghost use Rattle.rules.specs.Ports.{stepped, advanced};
+ghost use Rattle.rules.specs.Blocks.{blockCount};
+ghost use Rattle.rules.specs.Slots.{noSlot};
+ghost use Rattle.rules.specs.Validity.{validCore};
+ghost use Rattle.rules.specs.Clock.{slotLength, newSlot, moved, stopped, restarted, movedAt, kindAt, slotEnd, clockEnd, slotClock, firstClock, clockOf};
+ghost use Rattle.rules.specs.Buffers.{source, destination, placeOf};
+ghost use Rattle.rules.specs.Spans.{kindCode, IsSpan};
+ghost use Rattle.clocking.specs.Answers.{tick};
+use registers::block;
+use registers::command;
+use registers::part;
+use rules::Core;
+use rules::Place;
+use rules::Port;
+use rules::Slot;
+
+// A clock: its kind (0 bus, 1 held, 2 processor), whether a byte moves on it, and the core after it.
+pub struct Tick {
+    pub kind: u8,
+    pub moves: bool,
+    pub next: Core,
+}
+
+// A span of clocks of one kind, on whose last clock a byte may move.
+pub struct Span {
+    // 0 bus, 1 held, 2 processor.
+    pub kind: u8,
+    // How many clocks: within the budget, and 0 only for a budget of 0.
+    pub clocks: u32,
+    // A byte moves on the last clock, from one place to the other.
+    pub moves: bool,
+    pub from: Place,
+    pub to: Place,
+    // The core after the last clock.
+    pub next: Core,
+}
+
+fn wide(x: u8) -> u16
+    ensures { λ r. ⌜ r ≡ x ⌝ }
+{
+    x as u16
+}
+
+// The address after a byte: one less, one more or the same, modulo 65,536.
+fn step_pointer(step: u8, pointer: u16) -> u16
+    ensures { λ r. ⌜ r ≡ stepped step pointer ⌝ }
+{
+    if step == 0 {
+        return std::num::wrapping_sub_u16(pointer, 1);
+    }
+    if step == 1 {
+        return std::num::wrapping_add_u16(pointer, 1);
+    }
+    pointer
+}
+
+// The port with its pointer stepped.
+fn advance(p: Port) -> Port
+    ensures { λ r. ⌜ r ≡ advanced p ⌝ }
+{
+    let pointer = step_pointer(p.step, p.pointer);
+    let mut next = p;
+    next.pointer = pointer;
+    next
+}
+
+// The length of a slot that begins.
+fn slot_length(prescaler: u8, bus: u16) -> u16
+    ensures { λ r. ⌜ r ≡ slotLength prescaler bus ⌝ }
+{
+    if prescaler == 0 {
+        return bus;
+    }
+    let units = wide(prescaler);
+    32 * units
+}
+
+// The slot that the registers start.
+fn new_slot(c: Core) -> Slot
+    ensures { λ r. ⌜ r ≡ newSlot c ⌝ }
+{
+    let a = wide(c.a.cycle);
+    let b = wide(c.b.cycle);
+    let bus = a + b;
+    let length = slot_length(c.control.prescaler, bus);
+    let burst = c.control.burst;
+    Slot {
+        elapsed: 0,
+        bus,
+        length,
+        burst,
+    }
+}
+
+// The core after a byte has moved. The counter has room: a device that moves a byte has not finished its block.
+fn byte_moved(c: Core) -> Core
+    requires { ⌜ c .block .counter < 4294967295 ⌝ }
+    ensures { λ r. ⌜ r ≡ moved c ⌝ }
+{
+    let a = c.a;
+    let b = c.b;
+    let a = advance(a);
+    let b = advance(b);
+    let counter = c.block.counter + 1;
+    let mut next = c;
+    next.a = a;
+    next.b = b;
+    next.block.counter = counter;
+    next.status.t = true;
+    next
+}
+
+// The core with the byte moved where it moves on the slot's `n`-th clock.
+fn moved_at(n: u16, c: Core) -> Core
+    requires { ⌜ c .block .counter < 4294967295 ⌝ }
+    ensures { λ r. ⌜ r ≡ movedAt n c ⌝ }
+{
+    if n == c.slot.bus {
+        return byte_moved(c);
+    }
+    c
+}
+
+// The kind of the slot's `n`-th clock.
+fn kind_at(n: u16, c: Core) -> u8
+    ensures { λ r. ⌜ r ≡ kindCode (kindAt n c) ⌝ }
+{
+    if n <= c.slot.bus {
+        return 0;
+    }
+    if c.slot.burst {
+        return 2;
+    }
+    1
+}
+
+// No clock of a slot has elapsed.
+fn slot_cleared(c: Core) -> Core
+    ensures { λ r. ⌜ r ≡ withSlot noSlot c ⌝ }
+{
+    let none = Slot {
+        elapsed: 0,
+        bus: 0,
+        length: 0,
+        burst: false,
+    };
+    let mut next = c;
+    next.slot = none;
+    next
+}
+
+// The block has ended and the device is disabled.
+fn stop(c: Core) -> Core
+    ensures { λ r. ⌜ r ≡ stopped c ⌝ }
+{
+    let c = command::block_ended(c);
+    part::disabled(c)
+}
+
+// The block has ended and begins again.
+fn restart(c: Core) -> Core
+    ensures { λ r. ⌜ r ≡ restarted c ⌝ }
+{
+    let c = command::block_ended(c);
+    let c = command::loaded(c);
+    slot_cleared(c)
+}
+
+// Auto restart, with a block of some bytes.
+fn restarts(c: Core) -> bool
+    ensures { λ r. ⌜ r ≡ every (c .control .restart ∷ ltb 0 (blockCount (c .block)) ∷ []) ⌝ }
+{
+    let b = c.block;
+    let count = block::block_count(b);
+    c.control.restart & (0 < count)
+}
+
+// The end of a slot.
+fn end_slot(c: Core) -> Core
+    ensures { λ r. ⌜ r ≡ slotEnd c .core ⌝ }
+{
+    let b = c.block;
+    if block::is_finished(b) {
+        if restarts(c) {
+            return restart(c);
+        }
+        return stop(c);
+    }
+    slot_cleared(c)
+}
+
+// The end of the slot's `n`-th clock.
+fn end_clock(n: u16, c: Core) -> Core
+    ensures { λ r. ⌜ r ≡ clockEnd n c .core ⌝ }
+{
+    if n < c.slot.length {
+        let mut next = c;
+        next.slot.elapsed = n;
+        return next;
+    }
+    end_slot(c)
+}
+
+// The `n`-th clock of the running slot.
+fn slot_clock(n: u16, c: Core) -> Tick
+    requires { ⌜ c .block .counter < 4294967295 ⌝ }
+    ensures { λ r. ⌜ r ≡ tick (slotClock n c) ⌝ }
+{
+    let kind = kind_at(n, c);
+    let moves = n == c.slot.bus;
+    let after = moved_at(n, c);
+    let next = end_clock(n, after);
+    Tick { kind, moves, next }
+}
+
+// A slot's first clock.
+fn first_clock(c: Core) -> Tick
+    requires { ⌜ c .block .counter < 4294967295 ⌝ }
+    ensures { λ r. ⌜ r ≡ tick (firstClock c) ⌝ }
+{
+    let b = c.block;
+    if block::is_finished(b) {
+        let next = stop(c);
+        return Tick {
+            kind: 2,
+            moves: false,
+            next,
+        };
+    }
+    let slot = new_slot(c);
+    let mut begun = c;
+    begun.slot = slot;
+    slot_clock(1, begun)
+}
+
+// One clock of a core whose counter and slot are within their bounds, as a valid core's are.
+fn clock(c: Core) -> Tick
+    requires { ⌜ (c .block .counter < 4294967295) × (c .slot .elapsed < 65535) ⌝ }
+    ensures { λ r. ⌜ r ≡ tick (clockOf c) ⌝ }
+{
+    if c.enabled {
+        if c.slot.elapsed == 0 {
+            return first_clock(c);
+        }
+        let n = c.slot.elapsed + 1;
+        return slot_clock(n, c);
+    }
+    Tick {
+        kind: 2,
+        moves: false,
+        next: c,
+    }
+}
+
+// Where a port's next byte lies.
+fn place_of(p: Port) -> Place
+    ensures { λ r. ⌜ r ≡ placeOf p ⌝ }
+{
+    Place {
+        address: p.pointer,
+        io: p.io,
+    }
+}
+
+// Where the next byte is read.
+fn source_of(c: Core) -> Place
+    ensures { λ r. ⌜ r ≡ source c ⌝ }
+{
+    let a = c.a;
+    let b = c.b;
+    if c.control.forward {
+        return place_of(a);
+    }
+    place_of(b)
+}
+
+// Where the next byte is written.
+fn destination_of(c: Core) -> Place
+    ensures { λ r. ⌜ r ≡ destination c ⌝ }
+{
+    let a = c.a;
+    let b = c.b;
+    if c.control.forward {
+        return place_of(b);
+    }
+    place_of(a)
+}
+
+// The next span of a valid core's clocks within a budget: one clock, or none for a budget of 0.
+pub fn next_span(c: Core, budget: u32) -> Span
+    requires { ⌜ validCore c ≡ true ⌝ }
+    ensures { λ r. ⌜ IsSpan c budget (r .clocks) (r .kind) (r .moves) (r .from) (r .to) (r .next) ⌝ }
+{
+    let from = source_of(c);
+    let to = destination_of(c);
+    if budget == 0 {
+        return Span {
+            kind: 2,
+            clocks: 0,
+            moves: false,
+            from,
+            to,
+            next: c,
+        };
+    }
+    let tick = clock(c);
+    let next = tick.next;
+    Span {
+        kind: tick.kind,
+        clocks: 1,
+        moves: tick.moves,
+        from,
+        to,
+        next,
+    }
+}

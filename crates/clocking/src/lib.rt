@@ -1,0 +1,4 @@
+// Clocks of the core, and the byte that moves between two places.
+pub mod clock;
+pub mod count;
+pub mod transfer;

@@ -1,0 +1,101 @@
+use Rattle.rules.specs.Choice.{pick}
+use Rattle.rules.specs.Registers.{parameter}
+use borrow.Author.Tests.{eq-eqb, ne-eqb}
+use borrow.Author.Needs.{needs}
+use Rattle.registers.proofs.register.write_parameter.Statement.{statement}
+use Rattle.registers.proofs.register.write_parameter.Tie as tie
+
+a-low-written-requires : tie.Need-a-low-written-requires
+a-low-written-requires c κs = search needs
+
+returns : tie.Need-returns
+unfolding parameter pick
+returns c = simp (eq-eqb _ _ (c .before .if1 .taken), c .a-low-written .ensures)
+
+a-high-written-requires : tie.Need-a-high-written-requires
+a-high-written-requires c κs = search needs
+
+returns-2 : tie.Need-returns-2
+unfolding parameter pick
+returns-2 c = simp (ne-eqb _ _ (c .before .before .if1 .left), eq-eqb _ _ (c .before .if2 .taken), c .a-high-written .ensures)
+
+length-low-written-requires : tie.Need-length-low-written-requires
+length-low-written-requires c κs = search needs
+
+returns-3 : tie.Need-returns-3
+unfolding parameter pick
+returns-3 c = simp (ne-eqb _ _ (c .before .before .before .if1 .left), ne-eqb _ _ (c .before .before .if2 .left), eq-eqb _ _ (c .before .if3 .taken), c .length-low-written .ensures)
+
+length-high-written-requires : tie.Need-length-high-written-requires
+length-high-written-requires c κs = search needs
+
+returns-4 : tie.Need-returns-4
+unfolding parameter pick
+returns-4 c = simp (ne-eqb _ _ (c .before .before .before .before .if1 .left), ne-eqb _ _ (c .before .before .before .if2 .left), ne-eqb _ _ (c .before .before .if3 .left), eq-eqb _ _ (c .before .if4 .taken), c .length-high-written .ensures)
+
+a-timing-written-requires : tie.Need-a-timing-written-requires
+a-timing-written-requires c κs = search needs
+
+returns-5 : tie.Need-returns-5
+unfolding parameter pick
+returns-5 c = simp (ne-eqb _ _ (c .before .before .before .before .before .if1 .left), ne-eqb _ _ (c .before .before .before .before .if2 .left), ne-eqb _ _ (c .before .before .before .if3 .left), ne-eqb _ _ (c .before .before .if4 .left), eq-eqb _ _ (c .before .if5 .taken), c .a-timing-written .ensures)
+
+b-timing-written-requires : tie.Need-b-timing-written-requires
+b-timing-written-requires c κs = search needs
+
+returns-6 : tie.Need-returns-6
+unfolding parameter pick
+returns-6 c = simp (ne-eqb _ _ (c .before .before .before .before .before .before .if1 .left), ne-eqb _ _ (c .before .before .before .before .before .if2 .left), ne-eqb _ _ (c .before .before .before .before .if3 .left), ne-eqb _ _ (c .before .before .before .if4 .left), ne-eqb _ _ (c .before .before .if5 .left), eq-eqb _ _ (c .before .if6 .taken), c .b-timing-written .ensures)
+
+prescaler-written-requires : tie.Need-prescaler-written-requires
+prescaler-written-requires c κs = search needs
+
+returns-7 : tie.Need-returns-7
+unfolding parameter pick
+returns-7 c = simp (ne-eqb _ _ (c .before .before .before .before .before .before .before .if1 .left), ne-eqb _ _ (c .before .before .before .before .before .before .if2 .left), ne-eqb _ _ (c .before .before .before .before .before .if3 .left), ne-eqb _ _ (c .before .before .before .before .if4 .left), ne-eqb _ _ (c .before .before .before .if5 .left), ne-eqb _ _ (c .before .before .if6 .left), eq-eqb _ _ (c .before .if7 .taken), c .prescaler-written .ensures)
+
+b-low-written-requires : tie.Need-b-low-written-requires
+b-low-written-requires c κs = search needs
+
+returns-8 : tie.Need-returns-8
+unfolding parameter pick
+returns-8 c = simp (ne-eqb _ _ (c .before .before .before .before .before .before .before .before .if1 .left), ne-eqb _ _ (c .before .before .before .before .before .before .before .if2 .left), ne-eqb _ _ (c .before .before .before .before .before .before .if3 .left), ne-eqb _ _ (c .before .before .before .before .before .if4 .left), ne-eqb _ _ (c .before .before .before .before .if5 .left), ne-eqb _ _ (c .before .before .before .if6 .left), ne-eqb _ _ (c .before .before .if7 .left), eq-eqb _ _ (c .before .if8 .taken), c .b-low-written .ensures)
+
+b-high-written-requires : tie.Need-b-high-written-requires
+b-high-written-requires c κs = search needs
+
+returns-9 : tie.Need-returns-9
+unfolding parameter pick
+returns-9 c = simp (ne-eqb _ _ (c .before .before .before .before .before .before .before .before .before .if1 .left), ne-eqb _ _ (c .before .before .before .before .before .before .before .before .if2 .left), ne-eqb _ _ (c .before .before .before .before .before .before .before .if3 .left), ne-eqb _ _ (c .before .before .before .before .before .before .if4 .left), ne-eqb _ _ (c .before .before .before .before .before .if5 .left), ne-eqb _ _ (c .before .before .before .before .if6 .left), ne-eqb _ _ (c .before .before .before .if7 .left), ne-eqb _ _ (c .before .before .if8 .left), eq-eqb _ _ (c .before .if9 .taken), c .b-high-written .ensures)
+
+mask-written-requires : tie.Need-mask-written-requires
+mask-written-requires c κs = search needs
+
+returns-10 : tie.Need-returns-10
+unfolding parameter pick
+returns-10 c = simp (ne-eqb _ _ (c .before .before .before .before .before .before .before .before .before .if1 .left), ne-eqb _ _ (c .before .before .before .before .before .before .before .before .if2 .left), ne-eqb _ _ (c .before .before .before .before .before .before .before .if3 .left), ne-eqb _ _ (c .before .before .before .before .before .before .if4 .left), ne-eqb _ _ (c .before .before .before .before .before .if5 .left), ne-eqb _ _ (c .before .before .before .before .if6 .left), ne-eqb _ _ (c .before .before .before .if7 .left), ne-eqb _ _ (c .before .before .if8 .left), ne-eqb _ _ (c .before .if9 .left), c .mask-written .ensures)
+
+pub write-parameter-spec : {M : Type 1} → statement M
+write-parameter-spec =
+    tie.close
+    (tie.spec
+    a-low-written-requires
+    returns
+    a-high-written-requires
+    returns-2
+    length-low-written-requires
+    returns-3
+    length-high-written-requires
+    returns-4
+    a-timing-written-requires
+    returns-5
+    b-timing-written-requires
+    returns-6
+    prescaler-written-requires
+    returns-7
+    b-low-written-requires
+    returns-8
+    b-high-written-requires
+    returns-9
+    mask-written-requires
+    returns-10)

@@ -1,0 +1,25 @@
+use Rattle.rules.proofs.Choice.{strict}
+use borrow.Author.Tests.{eq-eqb, ne-eqb}
+use Rattle.rules.specs.Choice.{pick}
+use Rattle.rules.specs.Validity.{validSlot}
+use borrow.Author.Needs.{needs}
+use Rattle.registers.proofs.valid.valid_slot.Statement.{statement}
+use Rattle.registers.proofs.valid.valid_slot.Tie as tie
+
+resting-slot-requires : tie.Need-resting-slot-requires
+resting-slot-requires c κs = search needs
+
+returns : tie.Need-returns
+unfolding validSlot pick
+returns c = simp (eq-eqb _ _ (c .before .if1 .taken), c .resting-slot .ensures)
+
+running-slot-requires : tie.Need-running-slot-requires
+running-slot-requires c κs = search needs
+
+returns-2 : tie.Need-returns-2
+unfolding validSlot pick
+returns-2 c = simp (strict, ne-eqb _ _ (c .before .if1 .left), c .running-slot .ensures)
+
+pub valid-slot-spec : {M : Type 1} → statement M
+valid-slot-spec =
+    tie.close (tie.spec resting-slot-requires returns running-slot-requires returns-2)

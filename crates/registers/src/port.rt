@@ -1,0 +1,115 @@
+// What is done to a port, once for A and B.
+ghost use mathlib.Core.Path.{_≡_};
+ghost use Rattle.rules.specs.Bytes.{withLow, withHigh};
+ghost use Rattle.rules.specs.Ports.{configured, cycleOf, timed, addressedLow, addressedHigh, resetTiming, loaded};
+use rules::Port;
+
+// The number with its low byte replaced.
+pub fn with_low(byte: u8, n: u16) -> u16
+    ensures { λ r. ⌜ r ≡ withLow byte n ⌝ }
+{
+    n / 256 * 256 + byte as u16
+}
+
+// The number with its high byte replaced.
+pub fn with_high(byte: u8, n: u16) -> u16
+    ensures { λ r. ⌜ r ≡ withHigh byte n ⌝ }
+{
+    byte as u16 * 256 + n % 256
+}
+
+// WR1 and WR2: memory or I/O, and the pointer's step.
+pub fn configure(byte: u8, p: Port) -> Port
+    ensures { λ r. ⌜ r ≡ configured byte p ⌝ }
+{
+    let io = byte / 8 % 2 == 1;
+    let step = byte / 16 % 4;
+    Port {
+        address: p.address,
+        pointer: p.pointer,
+        io,
+        step,
+        cycle: p.cycle,
+    }
+}
+
+// The cycle that a timing byte asks for.
+pub fn cycle_of(byte: u8) -> u8
+    ensures { λ r. ⌜ r ≡ cycleOf byte ⌝ }
+{
+    if byte % 4 == 1 {
+        return 3;
+    }
+    if byte % 4 == 2 {
+        return 2;
+    }
+    4
+}
+
+// A timing byte.
+pub fn time(byte: u8, p: Port) -> Port
+    ensures { λ r. ⌜ r ≡ timed byte p ⌝ }
+{
+    let cycle = cycle_of(byte);
+    Port {
+        address: p.address,
+        pointer: p.pointer,
+        io: p.io,
+        step: p.step,
+        cycle,
+    }
+}
+
+// The low byte of the starting address.
+pub fn address_low(byte: u8, p: Port) -> Port
+    ensures { λ r. ⌜ r ≡ addressedLow byte p ⌝ }
+{
+    let address = with_low(byte, p.address);
+    Port {
+        address,
+        pointer: p.pointer,
+        io: p.io,
+        step: p.step,
+        cycle: p.cycle,
+    }
+}
+
+// The high byte of the starting address.
+pub fn address_high(byte: u8, p: Port) -> Port
+    ensures { λ r. ⌜ r ≡ addressedHigh byte p ⌝ }
+{
+    let address = with_high(byte, p.address);
+    Port {
+        address,
+        pointer: p.pointer,
+        io: p.io,
+        step: p.step,
+        cycle: p.cycle,
+    }
+}
+
+// The cycle after a reset of the timing.
+pub fn reset_timing(p: Port) -> Port
+    ensures { λ r. ⌜ r ≡ resetTiming p ⌝ }
+{
+    Port {
+        address: p.address,
+        pointer: p.pointer,
+        io: p.io,
+        step: p.step,
+        cycle: 4,
+    }
+}
+
+// The pointer takes the starting address.
+pub fn load(p: Port) -> Port
+    ensures { λ r. ⌜ r ≡ loaded p ⌝ }
+{
+    Port {
+        address: p.address,
+        pointer: p.address,
+        io: p.io,
+        step: p.step,
+        cycle: p.cycle,
+    }
+}

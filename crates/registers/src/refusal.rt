@@ -1,0 +1,41 @@
+// Why a port write or a port read is refused.
+ghost use mathlib.Core.Path.{_≡_};
+ghost use Rattle.rules.specs.Validity.{valid, total};
+ghost use Rattle.rules.specs.Refusals.{wrongPort, accessRefusal};
+use crate::slot;
+use crate::valid;
+use rules::Clocks;
+use rules::Core;
+
+// The core is valid and the sum of the clock counts fits.
+pub fn is_valid(c: Core, k: Clocks) -> bool
+    ensures { λ r. ⌜ r ≡ valid c (total k) ⌝ }
+{
+    let core = valid::valid_core(c);
+    let sum = valid::fits(k);
+    core & sum
+}
+
+// The port is not one of the device's.
+fn is_wrong_port(port: u16) -> bool
+    ensures { λ r. ⌜ r ≡ wrongPort port ⌝ }
+{
+    let low = port % 256;
+    (low != 0x6B) & (low != 0x0B)
+}
+
+// The number of a port write or a port read: 0 for accepted.
+pub fn access_number(c: Core, k: Clocks, port: u16) -> u8
+    ensures { λ r. ⌜ r ≡ accessRefusal c (total k) port ⌝ }
+{
+    if !is_valid(c, k) {
+        return 1;
+    }
+    if is_wrong_port(port) {
+        return 2;
+    }
+    if slot::holds_bus(c) {
+        return 3;
+    }
+    0
+}

@@ -1,0 +1,318 @@
+// What a byte written to the port does.
+ghost use mathlib.Core.Path.{_≡_};
+ghost use Rattle.rules.specs.Bytes.{withLow, withHigh};
+ghost use Rattle.rules.specs.Parts.{withA, withB, withBlock, withLength, withControl, withPrescaler};
+ghost use Rattle.rules.specs.Ports.{timed, addressedLow, addressedHigh};
+ghost use Rattle.rules.specs.Registers.{isWR0, isWR1, isWR2, isWR3, isWR4, isWR5, isWR6, wr0, wr1, wr2, wr3, wr4, wr5, register, bTimed, masked, parameter, takeParameter, inMode, effect, written};
+use crate::command;
+use crate::part;
+use crate::pending;
+use crate::port;
+use rules::Core;
+
+// A to B or B to A, and WR0's parameters.
+fn write_wr0(byte: u8, c: Core) -> Core
+    ensures { λ r. ⌜ r ≡ wr0 byte c ⌝ }
+{
+    let asked = pending::wr0_asks(byte);
+    let forward = byte / 4 % 2 == 1;
+    let mut next = c;
+    next.control.forward = forward;
+    next.pending = asked;
+    next
+}
+
+// Port A's kind and step.
+fn write_wr1(byte: u8, c: Core) -> Core
+    ensures { λ r. ⌜ r ≡ wr1 byte c ⌝ }
+{
+    let asked = pending::wr1_asks(byte);
+    let p = c.a;
+    let p = port::configure(byte, p);
+    let c = part::with_a(p, c);
+    part::with_pending(asked, c)
+}
+
+// Port B's kind and step.
+fn write_wr2(byte: u8, c: Core) -> Core
+    ensures { λ r. ⌜ r ≡ wr2 byte c ⌝ }
+{
+    let asked = pending::wr2_asks(byte);
+    let p = c.b;
+    let p = port::configure(byte, p);
+    let c = part::with_b(p, c);
+    part::with_pending(asked, c)
+}
+
+// Enable or Disable.
+fn write_wr3(byte: u8, c: Core) -> Core
+    ensures { λ r. ⌜ r ≡ wr3 byte c ⌝ }
+{
+    if byte / 64 % 2 == 1 {
+        return command::enabled(c);
+    }
+    part::disabled(c)
+}
+
+// Burst or continuous, and WR4's parameters.
+fn write_wr4(byte: u8, c: Core) -> Core
+    ensures { λ r. ⌜ r ≡ wr4 byte c ⌝ }
+{
+    let asked = pending::wr4_asks(byte);
+    let burst = byte / 32 % 4 == 2;
+    let mut next = c;
+    next.control.burst = burst;
+    next.pending = asked;
+    next
+}
+
+// Auto restart.
+fn write_wr5(byte: u8, c: Core) -> Core
+    ensures { λ r. ⌜ r ≡ wr5 byte c ⌝ }
+{
+    let restart = byte / 32 % 2 == 1;
+    let mut next = c;
+    next.control.restart = restart;
+    next
+}
+
+fn is_wr0(byte: u8) -> bool
+    ensures { λ r. ⌜ r ≡ isWR0 byte ⌝ }
+{
+    (byte < 128) & (byte % 4 != 0)
+}
+
+fn is_wr1(byte: u8) -> bool
+    ensures { λ r. ⌜ r ≡ isWR1 byte ⌝ }
+{
+    (byte < 128) & (byte % 8 == 4)
+}
+
+fn is_wr2(byte: u8) -> bool
+    ensures { λ r. ⌜ r ≡ isWR2 byte ⌝ }
+{
+    (byte < 128) & (byte % 8 == 0)
+}
+
+fn is_wr3(byte: u8) -> bool
+    ensures { λ r. ⌜ r ≡ isWR3 byte ⌝ }
+{
+    (128 <= byte) & (byte % 4 == 0)
+}
+
+fn is_wr4(byte: u8) -> bool
+    ensures { λ r. ⌜ r ≡ isWR4 byte ⌝ }
+{
+    (128 <= byte) & (byte % 4 == 1)
+}
+
+fn is_wr5(byte: u8) -> bool
+    ensures { λ r. ⌜ r ≡ isWR5 byte ⌝ }
+{
+    (128 <= byte) & ((byte < 192) & (byte % 8 == 2))
+}
+
+fn is_wr6(byte: u8) -> bool
+    ensures { λ r. ⌜ r ≡ isWR6 byte ⌝ }
+{
+    (128 <= byte) & (byte % 4 == 3)
+}
+
+// A byte written while no parameter is pending.
+fn write_register(byte: u8, c: Core) -> Core
+    ensures { λ r. ⌜ r ≡ register byte c ⌝ }
+{
+    if is_wr0(byte) {
+        return write_wr0(byte, c);
+    }
+    if is_wr1(byte) {
+        return write_wr1(byte, c);
+    }
+    if is_wr2(byte) {
+        return write_wr2(byte, c);
+    }
+    if is_wr3(byte) {
+        return write_wr3(byte, c);
+    }
+    if is_wr4(byte) {
+        return write_wr4(byte, c);
+    }
+    if is_wr5(byte) {
+        return write_wr5(byte, c);
+    }
+    if is_wr6(byte) {
+        return command::obey(byte, c);
+    }
+    c
+}
+
+// The low byte of A's starting address.
+fn a_low_written(byte: u8, c: Core) -> Core
+    ensures { λ r. ⌜ r ≡ withA (addressedLow byte (c .a)) c ⌝ }
+{
+    let p = c.a;
+    let p = port::address_low(byte, p);
+    part::with_a(p, c)
+}
+
+// The high byte of A's starting address.
+fn a_high_written(byte: u8, c: Core) -> Core
+    ensures { λ r. ⌜ r ≡ withA (addressedHigh byte (c .a)) c ⌝ }
+{
+    let p = c.a;
+    let p = port::address_high(byte, p);
+    part::with_a(p, c)
+}
+
+// The low byte of B's starting address.
+fn b_low_written(byte: u8, c: Core) -> Core
+    ensures { λ r. ⌜ r ≡ withB (addressedLow byte (c .b)) c ⌝ }
+{
+    let p = c.b;
+    let p = port::address_low(byte, p);
+    part::with_b(p, c)
+}
+
+// The high byte of B's starting address.
+fn b_high_written(byte: u8, c: Core) -> Core
+    ensures { λ r. ⌜ r ≡ withB (addressedHigh byte (c .b)) c ⌝ }
+{
+    let p = c.b;
+    let p = port::address_high(byte, p);
+    part::with_b(p, c)
+}
+
+// A's cycle.
+fn a_timing_written(byte: u8, c: Core) -> Core
+    ensures { λ r. ⌜ r ≡ withA (timed byte (c .a)) c ⌝ }
+{
+    let p = c.a;
+    let p = port::time(byte, p);
+    part::with_a(p, c)
+}
+
+// B's cycle, and the prescaler asked for by bit 5.
+fn b_timing_written(byte: u8, c: Core) -> Core
+    ensures { λ r. ⌜ r ≡ bTimed byte c ⌝ }
+{
+    let p = c.b;
+    let p = port::time(byte, p);
+    let awaited = c.pending;
+    let awaited = pending::asked(byte / 32 % 2 == 1, 7, awaited);
+    let c = part::with_b(p, c);
+    part::with_pending(awaited, c)
+}
+
+// The low byte of the length.
+fn length_low_written(byte: u8, c: Core) -> Core
+    ensures { λ r. ⌜ r ≡ withBlock (withLength (withLow byte (c .block .length)) (c .block)) c ⌝ }
+{
+    let length = port::with_low(byte, c.block.length);
+    let mut next = c;
+    next.block.length = length;
+    next
+}
+
+// The high byte of the length.
+fn length_high_written(byte: u8, c: Core) -> Core
+    ensures { λ r. ⌜ r ≡ withBlock (withLength (withHigh byte (c .block .length)) (c .block)) c ⌝ }
+{
+    let length = port::with_high(byte, c.block.length);
+    let mut next = c;
+    next.block.length = length;
+    next
+}
+
+// The prescaler.
+fn prescaler_written(byte: u8, c: Core) -> Core
+    ensures { λ r. ⌜ r ≡ withControl (withPrescaler byte (c .control)) c ⌝ }
+{
+    let mut next = c;
+    next.control.prescaler = byte;
+    next
+}
+
+// The read mask, and reading from the start.
+fn mask_written(byte: u8, c: Core) -> Core
+    ensures { λ r. ⌜ r ≡ masked byte c ⌝ }
+{
+    let mask = byte % 128;
+    let mut next = c;
+    next.readback.mask = mask;
+    next.readback.position = 0;
+    next
+}
+
+// The parameter with this code takes effect.
+fn write_parameter(code: u8, byte: u8, c: Core) -> Core
+    ensures { λ r. ⌜ r ≡ parameter code byte c ⌝ }
+{
+    if code == 1 {
+        return a_low_written(byte, c);
+    }
+    if code == 2 {
+        return a_high_written(byte, c);
+    }
+    if code == 3 {
+        return length_low_written(byte, c);
+    }
+    if code == 4 {
+        return length_high_written(byte, c);
+    }
+    if code == 5 {
+        return a_timing_written(byte, c);
+    }
+    if code == 6 {
+        return b_timing_written(byte, c);
+    }
+    if code == 7 {
+        return prescaler_written(byte, c);
+    }
+    if code == 8 {
+        return b_low_written(byte, c);
+    }
+    if code == 9 {
+        return b_high_written(byte, c);
+    }
+    mask_written(byte, c)
+}
+
+// The next pending parameter is used up and takes effect.
+fn take_parameter(byte: u8, c: Core) -> Core
+    ensures { λ r. ⌜ r ≡ takeParameter byte c ⌝ }
+{
+    let awaited = c.pending;
+    let code = awaited.first;
+    let later = pending::after_first(awaited);
+    let c = part::with_pending(later, c);
+    write_parameter(code, byte, c)
+}
+
+// The compatibility mode that the port stands for.
+fn in_mode(port: u16, c: Core) -> Core
+    ensures { λ r. ⌜ r ≡ inMode port c ⌝ }
+{
+    let zilog = port % 256 == 0x0B;
+    let mut next = c;
+    next.block.zilog = zilog;
+    next
+}
+
+// A byte takes effect, as a parameter if one is pending.
+fn take_effect(byte: u8, c: Core) -> Core
+    ensures { λ r. ⌜ r ≡ effect byte c ⌝ }
+{
+    let awaited = c.pending;
+    if pending::is_pending(awaited) {
+        return take_parameter(byte, c);
+    }
+    write_register(byte, c)
+}
+
+// An accepted write.
+pub fn write(port: u16, byte: u8, c: Core) -> Core
+    ensures { λ r. ⌜ r ≡ written port byte c ⌝ }
+{
+    let c = in_mode(port, c);
+    take_effect(byte, c)
+}

@@ -1,0 +1,97 @@
+// Validity of a core, part by part.
+ghost use mathlib.Core.Path.{_≡_};
+ghost use lib.Dec.{leb};
+ghost use Rattle.rules.specs.Validity.{validPort, validReadback, restingSlot, validLength, runningSlot, validSlot, validProgress, validCore, total, most64};
+use crate::block;
+use crate::pending;
+use crate::slot;
+use rules::Block;
+use rules::Clocks;
+use rules::Core;
+use rules::Port;
+use rules::Readback;
+use rules::Slot;
+
+fn valid_port(p: Port) -> bool
+    ensures { λ r. ⌜ r ≡ validPort p ⌝ }
+{
+    (2 <= p.cycle) & (p.cycle <= 4)
+}
+
+fn valid_readback(r: Readback) -> bool
+    ensures { λ x. ⌜ x ≡ validReadback r ⌝ }
+{
+    (r.mask <= 127) & (r.position <= 6)
+}
+
+fn resting_slot(s: Slot) -> bool
+    ensures { λ r. ⌜ r ≡ restingSlot s ⌝ }
+{
+    (s.bus == 0) & ((s.length == 0) & !s.burst)
+}
+
+fn valid_length(s: Slot) -> bool
+    ensures { λ r. ⌜ r ≡ validLength s ⌝ }
+{
+    let prescaled = (32 <= s.length) & ((s.length <= 8160) & (s.length % 32 == 0));
+    (s.length == s.bus) | prescaled
+}
+
+fn running_slot(s: Slot) -> bool
+    ensures { λ r. ⌜ r ≡ runningSlot s ⌝ }
+{
+    let length = valid_length(s);
+    (4 <= s.bus) & ((s.bus <= 8) & (length & (s.elapsed < s.length)))
+}
+
+fn valid_slot(enabled: bool, s: Slot) -> bool
+    ensures { λ r. ⌜ r ≡ validSlot enabled s ⌝ }
+{
+    if s.elapsed == 0 {
+        return resting_slot(s);
+    }
+    let running = running_slot(s);
+    enabled & running
+}
+
+fn valid_progress(enabled: bool, b: Block, s: Slot) -> bool
+    ensures { λ r. ⌜ r ≡ validProgress enabled b s ⌝ }
+{
+    let unmoved = slot::is_unmoved(s);
+    let finished = block::is_finished(b);
+    !(enabled & (unmoved & finished))
+}
+
+// The core is valid.
+pub fn valid_core(c: Core) -> bool
+    ensures { λ r. ⌜ r ≡ validCore c ⌝ }
+{
+    let a = c.a;
+    let b = c.b;
+    let block = c.block;
+    let readback = c.readback;
+    let awaited = c.pending;
+    let slot = c.slot;
+    let port_a = valid_port(a);
+    let port_b = valid_port(b);
+    let counter = block.counter <= 65536;
+    let reading = valid_readback(readback);
+    let sequence = pending::is_valid(awaited);
+    let figures = valid_slot(c.enabled, slot);
+    let progress = valid_progress(c.enabled, block, slot);
+    port_a & (port_b & (counter & (reading & (sequence & (figures & progress)))))
+}
+
+// The sum of the clock counts fits 64 bits; no sum wraps on the way.
+pub fn fits(k: Clocks) -> bool
+    ensures { λ r. ⌜ r ≡ leb (total k) most64 ⌝ }
+{
+    if 18446744073709551615 - k.bus < k.held {
+        return false;
+    }
+    let both = k.bus + k.held;
+    if 18446744073709551615 - both < k.cpu {
+        return false;
+    }
+    true
+}

@@ -1,0 +1,48 @@
+-- A span: some clocks of one kind, on whose last clock a byte may move. What code answers of a core in place of single
+-- clocks.
+-- Assumes nothing.
+use Prim.Native.Nat.{ℕ, zero, suc, _+_, _≤_, _<_}
+use mathlib.Core.Path.{_≡_}
+use mathlib.Core.Bool.{Bool, true, false}
+use lib.Dec.{eqb}
+use Rattle.rules.specs.Choice.{pick}
+use Rattle.rules.specs.Clock.{Kind, busClock, heldClock, cpuClock, clockOf}
+use Rattle.rules.specs.Buffers.{Store, Buffers, source, destination, transfer}
+use Rattle.rules.specs.declared.Place.{Place}
+use Rattle.rules.specs.declared.Clocks.{Clocks}
+use Rattle.rules.specs.declared.Core.{Core}
+
+-- a kind's number in code
+abbrev pub kindCode : Kind → ℕ
+kindCode busClock = 0
+kindCode heldClock = 1
+kindCode cpuClock = 2
+
+-- n clocks of the core alone
+unfoldable pub ticks : ℕ → Core → Core
+ticks zero c = c
+ticks (suc n) c = clockOf (ticks n c) .next
+
+-- n clocks of one kind counted at once
+unfoldable pub countedBy : ℕ → ℕ → Clocks → Clocks
+countedBy kind n k =
+    pick (eqb kind 0) (record { bus = k .bus + n; held = k .held; cpu = k .cpu })
+    (pick (eqb kind 1) (record { bus = k .bus; held = k .held + n; cpu = k .cpu })
+    (record { bus = k .bus; held = k .held; cpu = k .cpu + n }))
+
+-- the buffers with a byte moved from one place to the other, or as they were
+unfoldable pub buffersBetween : {M : Type 0} → Store M → Bool → Place → Place → Buffers M → Buffers M
+buffersBetween σ moves from to b = pick moves (transfer σ from to b) b
+
+-- from c on, n clocks of one kind, within a budget and one at least if there is a budget; none but the last moves a byte,
+-- and the last, where it does, from one place to the other; next is the core after them
+pub record IsSpan (c : Core) (budget n kind : ℕ) (moves : Bool) (from to : Place) (next : Core) : Type 0 where
+  pub within : n ≤ budget
+  pub some : 0 < budget → 0 < n
+  pub kinds : (i : ℕ) → i < n → kindCode (clockOf (ticks i c) .kind) ≡ kind
+  pub quiet : (i : ℕ) → i + 1 < n → clockOf (ticks i c) .moves ≡ false
+  pub last : (i : ℕ) → i + 1 ≡ n → clockOf (ticks i c) .moves ≡ moves
+  pub source : (i : ℕ) → i + 1 ≡ n → source (ticks i c) ≡ from
+  pub destination : (i : ℕ) → i + 1 ≡ n → destination (ticks i c) ≡ to
+  pub none : n ≡ 0 → moves ≡ false
+  pub core : ticks n c ≡ next

@@ -1,0 +1,34 @@
+-- The device and the answers of its calls, as the rules name them.
+-- Assumes nothing.
+use Prim.Native.Nat.{ℕ}
+use mathlib.Core.List.{List}
+use Rattle.rules.specs.PowerOn.{powerOn, noClocks}
+use Rattle.rules.specs.World.{World, System}
+use Rattle.rules.specs.Calls.{Reply, Answer}
+use Rattle.zxndma.specs.declared.Device.{Device}
+use Rattle.zxndma.specs.declared.WriteAnswer.{WriteAnswer}
+use Rattle.zxndma.specs.declared.ReadAnswer.{ReadAnswer}
+use Rattle.zxndma.specs.declared.GrantAnswer.{GrantAnswer}
+
+abbrev pub deviceAtPowerOn : Device
+deviceAtPowerOn = record { core = powerOn; clocks = noClocks }
+
+-- the answer to a write: the reply's number, core and clock counts
+abbrev pub writeAnswer : Reply → WriteAnswer
+writeAnswer r = record { number = r .number; device = record { core = r .core; clocks = r .clocks } }
+
+-- the answer to a read: the byte too
+abbrev pub readAnswer : Reply → ReadAnswer
+readAnswer r = record { number = r .number; byte = r .byte; device = record { core = r .core; clocks = r .clocks } }
+
+-- a device beside the two buffers that a caller lends
+abbrev pub systemOf : Device → List ℕ → List ℕ → System (List ℕ)
+systemOf d m l =
+    record {
+      world = record { core = d .core; buffers = record { memory = m; latches = l } };
+      clocks = d .clocks;
+    }
+
+-- the answer to a grant, with both buffers as the call leaves them
+abbrev pub grantAnswer : GrantAnswer → List ℕ → List ℕ → Answer (List ℕ)
+grantAnswer r m l = record { number = r .number; byte = 0; system = systemOf (r .device) m l }
