@@ -28,13 +28,16 @@ fn is_wrong_port(port: u16) -> bool
 pub fn access_number(c: Core, k: Clocks, port: u16) -> u8
     ensures { λ r. ⌜ r ≡ accessRefusal c (total k) port ⌝ }
 {
-    if !is_valid(c, k) {
+    let valid = is_valid(c, k);
+    let wrong = is_wrong_port(port);
+    let held = slot::holds_bus(c);
+    if !valid {
         return 1;
     }
-    if is_wrong_port(port) {
+    if wrong {
         return 2;
     }
-    if slot::holds_bus(c) {
+    if held {
         return 3;
     }
     0

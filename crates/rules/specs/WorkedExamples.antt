@@ -37,6 +37,40 @@ awaiting a b d e c = withPending (record { first = a; second = b; third = d; fou
 abbrev pub inSlot : ℕ → ℕ → ℕ → Bool → Core → Core
 inSlot n bus length burst c = withSlot (record { elapsed = n; bus = bus; length = length; burst = burst }) c
 
+-- P3: three clocks move nothing, and the bus is held; the fourth moves the byte
+abbrev pub threeClocks : Row
+threeClocks =
+    row "P3"
+    (send 0x6B sheet
+    ∷ clocks 3
+    ∷ memory 0x2000 (0xE1 ∷ 0xE2 ∷ 0xE3 ∷ 0xE4 ∷ 0xE5 ∷ 0xE6 ∷ [])
+    ∷ counter 0
+    ∷ status 0x3A
+    ∷ pointers 0x1000 0x2000
+    ∷ sendRefused 0x6B 0x83 3
+    ∷ expectRefused 0x6B 3
+    ∷ counts 3 0 0
+    ∷ clocks 1
+    ∷ memory 0x2000 (0xA1 ∷ 0xE2 ∷ [])
+    ∷ counter 1
+    ∷ status 0x3B
+    ∷ [])
+
+-- compatibility mode by a parameter: a parameter's port sets the mode; a read's does not
+abbrev pub modeByParameter : Row
+modeByParameter =
+    row "compatibility mode by a parameter"
+    (send 0x6B (0x65 ∷ [])
+    ∷ send 0x0B (0x05 ∷ [])
+    ∷ count 6
+    ∷ send 0x6B (0x01 ∷ [])
+    ∷ count 0x105
+    ∷ send 0x0B (0x83 ∷ [])
+    ∷ count 0x106
+    ∷ expect 0x6B (0x3A ∷ [])
+    ∷ count 0x106
+    ∷ [])
+
 -- P8: an overlap: each byte is read after the one before it was written
 abbrev pub overlap : Row
 overlap =
@@ -75,22 +109,7 @@ table =
     ∷ pointers 0x1005 0x2005
     ∷ expect 0x0B (0x1B ∷ 0x05 ∷ 0x00 ∷ 0x05 ∷ 0x10 ∷ 0x05 ∷ 0x20 ∷ [])
     ∷ [])
-    -- P3: three clocks move nothing, and the bus is held; the fourth moves the byte
-    ∷ row "P3"
-    (send 0x6B sheet
-    ∷ clocks 3
-    ∷ memory 0x2000 (0xE1 ∷ 0xE2 ∷ 0xE3 ∷ 0xE4 ∷ 0xE5 ∷ 0xE6 ∷ [])
-    ∷ counter 0
-    ∷ status 0x3A
-    ∷ pointers 0x1000 0x2000
-    ∷ sendRefused 0x6B 0x83 3
-    ∷ expectRefused 0x6B 3
-    ∷ counts 3 0 0
-    ∷ clocks 1
-    ∷ memory 0x2000 (0xA1 ∷ 0xE2 ∷ [])
-    ∷ counter 1
-    ∷ status 0x3B
-    ∷ [])
+    ∷ threeClocks
     -- P4: prescaler 1 in burst: 32 clocks for each byte, of which the processor has 28
     ∷ row "P4"
     (send 0x6B (program 0x1000 3 (0x22 ∷ 0x01 ∷ []) 0xCD 0x2000 0x82)
@@ -100,14 +119,6 @@ table =
     ∷ status 0x1B
     ∷ memory 0x2000 (0xA1 ∷ 0xA2 ∷ 0xA3 ∷ 0xE4 ∷ [])
     ∷ pointers 0x1003 0x2003
-    ∷ [])
-    -- P4 long: prescaler 37 (hex)
-    ∷ row "P4 long"
-    (send 0x6B (program 0x1000 3 (0x22 ∷ 0x37 ∷ []) 0xCD 0x2000 0x82)
-    ∷ clocks 5280
-    ∷ counts 12 0 5268
-    ∷ enabled false
-    ∷ memory 0x2000 (0xA1 ∷ 0xA2 ∷ 0xA3 ∷ 0xE4 ∷ [])
     ∷ [])
     -- P5: P4 in continuous: the wait is held, also after the last byte
     ∷ row "P5"
@@ -354,18 +365,7 @@ table =
     ∷ counts 8 0 56
     ∷ memory 0x2000 (0xA1 ∷ 0xA2 ∷ 0xE3 ∷ [])
     ∷ [])
-    -- compatibility mode by a parameter: a parameter's port sets the mode; a read's does not
-    ∷ row "compatibility mode by a parameter"
-    (send 0x6B (0x65 ∷ [])
-    ∷ send 0x0B (0x05 ∷ [])
-    ∷ count 6
-    ∷ send 0x6B (0x01 ∷ [])
-    ∷ count 0x105
-    ∷ send 0x0B (0x83 ∷ [])
-    ∷ count 0x106
-    ∷ expect 0x6B (0x3A ∷ [])
-    ∷ count 0x106
-    ∷ [])
+    ∷ modeByParameter
     -- length 0 in a wait: auto restart with a block count of 0 disables at the end of the slot
     ∷ row "length 0 in a wait"
     (send 0x6B (program 0x1000 2 (0x22 ∷ 0x01 ∷ []) 0xCD 0x2000 0xA2)
