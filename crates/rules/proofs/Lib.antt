@@ -12,5 +12,7 @@ pub mod Clocking
 pub mod Counting
 pub mod Spans
 pub mod Calls
+pub mod Counter
+pub mod Accounts
 pub mod WorkedExamples
 pub mod Slips

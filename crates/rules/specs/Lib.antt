@@ -18,6 +18,9 @@ pub mod World
 pub mod Spans
 pub mod Refusals
 pub mod Calls
+pub mod Entries
+pub mod History
+pub mod Accounts
 pub mod Rows
 pub mod WorkedExamples
 pub mod Slips

@@ -1,0 +1,354 @@
+-- Demand 3. The run and the history agree entry by entry: the same world, the counts as noted, the sum of the counts as the
+-- history's sum; and the bytes noted balance the counter, clock by clock and write by write. Grants split because n clocks
+-- keep a valid device valid and clocks of m + n are n after m.
+-- Assumes nothing.
+use Prim.Native.Nat.{ℕ, zero, suc, _+_, _≤_}
+use native.Mathlib.Omega.{arith}
+use native.Mathlib.Nat.{add-zero, zero-add, add-assoc}
+use mathlib.Core.Path.{_≡_, refl, sym, _∙_, ap, subst}
+use mathlib.Core.Bool.{Bool, true, false, not}
+use mathlib.Core.List.{List, [], _∷_}
+use mathlib.Core.Option.{Option, none, some}
+use lib.Dec.{eqb}
+use lib.ListN.{length, length-set}
+use borrow.Author.Tests.{eqb-true, eqb-false, eq-eqb, ne-eqb}
+use Rattle.rules.specs.Choice.{pick, test, firstHit}
+use Rattle.rules.specs.Validity.{total, most64}
+use Rattle.rules.specs.Facts.{InRange, Kept}
+use Rattle.rules.specs.Clock.{Kind, busClock, heldClock, cpuClock, counted, clockOf}
+use Rattle.rules.specs.Registers.{written}
+use Rattle.rules.specs.Readback.{readByte}
+use Rattle.rules.specs.Buffers.{Store, flat, Buffers, put, source, destination, byteAt}
+use Rattle.rules.specs.World.{World, System, Move, Note, buffersAfter, step, note, stepCounted, clocked}
+use Rattle.rules.specs.Refusals.{accessRefusal, grantRefusal}
+use Rattle.rules.specs.Calls.{Reply, Answer, accepted, refused, writeReply, readReply, beside, write, read, grantNumber, grant}
+use Rattle.rules.specs.Entries.{Outside, Poke, flatOutside, LentMemory, ownMemory, otherMemory, LentLatches, ownLatches, otherLatches, Entry, portWrite, portRead, clockGrant, outsideChange, Answered, Run, besideBuffers, lentBuffers, ownBuffersAfter, grantLent, changed, enter, run, systemAtPowerOn}
+use Rattle.rules.specs.History.{Event, clockNoted, counterZeroed, Past, zeroing, Passed, History, withCore, writePassed, clockPassed, clocksPassed, grantPassed, unlessRefused, changePassed, pass, history, pastAtPowerOn}
+use Rattle.rules.specs.Accounts.{ofKind, clocksNoted, moved, bytesNoted, heldBefore, zeroedNoted, clocksAsked, clocksAccepted, numbersOf, sumOf, AcceptedInTurn, Splits, Accounted, Demand3}
+use Rattle.rules.specs.declared.Place.{Place}
+use Rattle.rules.specs.declared.Clocks.{Clocks}
+use Rattle.rules.specs.declared.Core.{Core}
+use Rattle.rules.proofs.Choice.{clash, pick-cases, pick-both, pick-true, pick-false, pick-ap, either}
+use Rattle.rules.proofs.Counting.{clocked-zero, clocked-suc, clocked-add, clocked-total, clocked-kept}
+use Rattle.rules.proofs.Calls.{Granted, granted, grantable, grant-accepts, grant-refuses, valid-sound, sound-valid}
+use Rattle.rules.proofs.Counter.{write-zero, write-same, read-same, clock-balanced}
+
+-- two choices by one test
+both-picked {ℓ κ μ} : {X : Type ℓ} {Y : Type κ} (R : X → Y → Type μ) (t : Bool) (x y : X) (u v : Y) → (t ≡ true → R x u) → (t ≡ false → R y v) → R (pick t x y) (pick t u v)
+unfolding pick
+both-picked R true x y u v f g = f refl
+both-picked R false x y u v f g = g refl
+
+-- ---- the counts and the counter against the events
+
+record Counts (k : Clocks) (es : List Event) (counter : ℕ) : Type 0 where
+  bus : k .bus ≡ clocksNoted busClock es
+  held : k .held ≡ clocksNoted heldClock es
+  cpu : k .cpu ≡ clocksNoted cpuClock es
+  bytes : bytesNoted es ≡ zeroedNoted es + counter
+
+-- one clock counted and noted
+counts-clock : (k : Clocks) (es : List Event) (before after : ℕ) (n : Note) → heldBefore (n .zeroed) + after ≡ before + moved (n .move) → Counts k es before → Counts (counted (n .kind) k) (clockNoted n ∷ es) after
+unfolding clocksNoted bytesNoted zeroedNoted
+counts-clock k es before after n b c =
+    record { bus = at-bus (n .kind); held = at-held (n .kind); cpu = at-cpu (n .kind); bytes = omega (arith, c .bytes) }
+  where
+    at-bus : (x : Kind) → counted x k .bus ≡ ofKind busClock x + clocksNoted busClock es
+    at-bus busClock = omega (arith, c .bus)
+    at-bus heldClock = omega (arith, c .bus)
+    at-bus cpuClock = omega (arith, c .bus)
+
+    at-held : (x : Kind) → counted x k .held ≡ ofKind heldClock x + clocksNoted heldClock es
+    at-held busClock = omega (arith, c .held)
+    at-held heldClock = omega (arith, c .held)
+    at-held cpuClock = omega (arith, c .held)
+
+    at-cpu : (x : Kind) → counted x k .cpu ≡ ofKind cpuClock x + clocksNoted cpuClock es
+    at-cpu busClock = omega (arith, c .cpu)
+    at-cpu heldClock = omega (arith, c .cpu)
+    at-cpu cpuClock = omega (arith, c .cpu)
+
+-- a zeroing noted
+counts-zeroed : (k : Clocks) (es : List Event) (before after : ℕ) → after ≡ 0 → Counts k es before → Counts k (counterZeroed before ∷ es) after
+unfolding clocksNoted bytesNoted zeroedNoted
+counts-zeroed k es before after z c =
+    record { bus = c .bus; held = c .held; cpu = c .cpu; bytes = omega (arith, c .bytes) }
+
+counts-same : (k : Clocks) (es : List Event) (before after : ℕ) → after ≡ before → Counts k es before → Counts k es after
+counts-same k es before after e c = record { bus = c .bus; held = c .held; cpu = c .cpu; bytes = omega (arith, c .bytes) }
+
+-- ---- the run and the history
+
+record Agree {M : Type 0} (s : System M) (p : Past M) : Type 0 where
+  world : s .world ≡ p .world
+  sum : total (s .clocks) ≡ p .sum
+  counts : Counts (s .clocks) (p .events) (s .world .core .block .counter)
+
+-- a history beside a system, with the same world and sum
+abbrev pastOf : {M : Type 0} → System M → List Event → Past M
+pastOf s es = record { world = s .world; sum = total (s .clocks); events = es }
+
+-- what one entry keeps, where it asks for some clocks and the history gives it this number
+record Step {M : Type 0} (asked : ℕ) (s : System M) (a : Answer M) (given : ℕ) (p : Past M) : Type 0 where
+  number : a .number ≡ given
+  agree : Agree (a .system) p
+  sum : total (a .system .clocks) ≡ total (s .clocks) + pick (eqb (a .number) 0) asked 0
+
+-- an entry that asks for no clock, or is refused, adds none
+no-clocks : (t : Bool) (n : ℕ) → n ≡ n + pick t 0 0
+no-clocks t n = sym (ap (λ (k : ℕ). n + k) (pick-both (λ (k : ℕ). k ≡ 0) t 0 0 refl refl) ∙ add-zero n)
+
+refused-clocks : (k asked n : ℕ) → (k ≡ 0 → ⊥) → n ≡ n + pick (eqb k 0) asked 0
+refused-clocks k asked n h = sym (ap (λ (j : ℕ). n + j) (pick-false _ _ _ (ne-eqb _ _ h)) ∙ add-zero n)
+
+granted-clocks : (asked n : ℕ) → n + asked ≡ n + pick (eqb 0 0) asked 0
+granted-clocks asked n = ap (λ (j : ℕ). n + j) (sym (pick-true _ _ _ refl))
+
+module _ {M : Type 0} (σ : Store M) where
+  -- a clock's note balances the counter
+  note-balanced : (w : World M) → heldBefore (note σ w .zeroed) + step σ w .core .block .counter ≡ w .core .block .counter + moved (note σ w .move)
+  note-balanced w =
+      clock-balanced (w .core) ∙ ap (λ (k : ℕ). w .core .block .counter + k) (sym (pick-ap moved (clockOf (w .core) .moves) _ _))
+
+  -- n clocks
+  record Clocked (s : System M) (p : Past M) : Type 0 where
+    world : s .world ≡ p .world
+    counts : Counts (s .clocks) (p .events) (s .world .core .block .counter)
+
+  clock-agrees : (s : System M) (p : Past M) → Clocked s p → Clocked (stepCounted σ s) (clockPassed σ p)
+  clock-agrees s p c =
+      record {
+        world = ap (step σ) (c .world);
+        counts =
+            subst (λ (w : World M). Counts (stepCounted σ s .clocks) (clockNoted (note σ w) ∷ p .events) (stepCounted σ s .world .core .block .counter)) (c .world)
+            (counts-clock (s .clocks) (p .events) _ _ (note σ (s .world)) (note-balanced (s .world)) (c .counts));
+      }
+
+  clocks-agree : (n : ℕ) (s : System M) (p : Past M) → Clocked s p → Clocked (clocked σ n s) (clocksPassed σ n p)
+  unfolding clocked clocksPassed
+  clocks-agree zero s p c = c
+  clocks-agree (suc n) s p c = clock-agrees (clocked σ n s) (clocksPassed σ n p) (clocks-agree n s p c)
+
+  clocks-sum : (n : ℕ) (p : Past M) → clocksPassed σ n p .sum ≡ p .sum
+  unfolding clocksPassed
+  clocks-sum zero p = refl
+  clocks-sum (suc n) p = clocks-sum n p
+
+  -- ---- a port write
+
+  written-agrees : (s : System M) (es : List Event) (port byte : ℕ) → Counts (s .clocks) es (s .world .core .block .counter) → Agree (record { world = record { core = written port byte (s .world .core); buffers = s .world .buffers }; clocks = s .clocks }) (writePassed σ port byte (pastOf s es))
+  unfolding writePassed
+  written-agrees s es port byte c =
+      pick-cases
+      (λ (q : Past M). Agree (record { world = record { core = written port byte (s .world .core); buffers = s .world .buffers }; clocks = s .clocks }) q)
+      _ _ _
+      (λ z. record { world = refl; sum = refl; counts = counts-zeroed _ es _ _ (write-zero port byte (s .world .core) z) c })
+      (λ z. record { world = refl; sum = refl; counts = counts-same _ es _ _ (write-same port byte (s .world .core) z) c })
+
+  -- nothing has changed
+  as-before : (s : System M) (es : List Event) → Counts (s .clocks) es (s .world .core .block .counter) → Agree s (pastOf s es)
+  as-before s es c = record { world = refl; sum = refl; counts = c }
+
+  write-step : (s : System M) (es : List Event) (port byte n : ℕ) → n ≡ accessRefusal (s .world .core) (total (s .clocks)) port → Counts (s .clocks) es (s .world .core .block .counter) → Step 0 s (write σ s port byte) n (unlessRefused σ n (writePassed σ port byte (pastOf s es)) (pastOf s es) .past)
+  unfolding writeReply unlessRefused
+  write-step s es port byte n e c =
+      rw e
+      (both-picked (λ (r : Reply) (q : Past M). Step 0 s (beside σ (s .world .buffers) r) (accessRefusal (s .world .core) (total (s .clocks)) port) q)
+      _ _ _ _ _
+      (λ d. record { number = sym (eqb-true _ _ d); agree = written-agrees s es port byte c; sum = no-clocks _ _ })
+      (λ d. record { number = refl; agree = as-before s es c; sum = no-clocks _ _ }))
+
+  read-step : (s : System M) (es : List Event) (port n : ℕ) → n ≡ accessRefusal (s .world .core) (total (s .clocks)) port → Counts (s .clocks) es (s .world .core .block .counter) → Step 0 s (read σ s port) n (unlessRefused σ n (withCore σ (readByte (s .world .core) .core) (pastOf s es)) (pastOf s es) .past)
+  unfolding readReply unlessRefused
+  read-step s es port n e c =
+      rw e
+      (both-picked (λ (r : Reply) (q : Past M). Step 0 s (beside σ (s .world .buffers) r) (accessRefusal (s .world .core) (total (s .clocks)) port) q)
+      _ _ _ _ _
+      (λ d.
+      record {
+        number = sym (eqb-true _ _ d);
+        agree = record { world = refl; sum = refl; counts = counts-same _ es _ _ (read-same (s .world .core)) c };
+        sum = no-clocks _ _;
+      })
+      (λ d. record { number = refl; agree = as-before s es c; sum = no-clocks _ _ }))
+
+  -- ---- a grant
+
+  granted-agrees : (s : System M) (es : List Event) (n : ℕ) → Counts (s .clocks) es (s .world .core .block .counter) → Agree (clocked σ n s) (grantPassed σ n (pastOf s es))
+  granted-agrees s es n c =
+      let p : Past M = record { world = s .world; sum = total (s .clocks) + n; events = es } in
+      let k = clocks-agree n s p (record { world = refl; counts = c }) in
+      record { world = k .world; sum = clocked-total σ n s ∙ sym (clocks-sum n p); counts = k .counts }
+
+  own-step : (s : System M) (es : List Event) (n : ℕ) → Counts (s .clocks) es (s .world .core .block .counter) → Step n s (grant σ s n) (grantNumber σ s n) (unlessRefused σ (grantNumber σ s n) (grantPassed σ n (pastOf s es)) (pastOf s es) .past)
+  unfolding grant unlessRefused
+  own-step s es n c =
+      both-picked (λ (a : Answer M) (q : Past M). Step n s a (grantNumber σ s n) q) _ _ _ _ _
+      (λ d. record { number = sym (eqb-true _ _ d); agree = granted-agrees s es n c; sum = clocked-total σ n s ∙ granted-clocks n _ })
+      (λ d. record { number = refl; agree = as-before s es c; sum = refused-clocks (grantNumber σ s n) n _ (eqb-false _ _ d) })
+
+module _ {M C : Type 0} (σ : Store M) (ω : Outside M C) where
+  -- the list keeps its own buffers
+  own-after : (m : LentMemory σ) (l : LentLatches) (b : Buffers M) → ownBuffersAfter m l b (lentBuffers m l b) ≡ b
+  own-after ownMemory ownLatches b = refl
+  own-after ownMemory (otherLatches l wrong) b = refl
+  own-after (otherMemory m wrong) ownLatches b = refl
+  own-after (otherMemory m wrong) (otherLatches l bad) b = refl
+
+  -- the refusal number of a grant with the buffers lent
+  abbrev lentNumber : System M → ℕ → LentMemory σ → LentLatches → ℕ
+  lentNumber s n m l = grantRefusal σ (s .world .core) (total (s .clocks)) (lentBuffers m l (s .world .buffers)) n
+
+  -- a grant with other buffers is refused, and nothing changes
+  other-answer : (s : System M) (n : ℕ) (m : LentMemory σ) (l : LentLatches) → (lentNumber s n m l ≡ 0 → ⊥) → _≡_ {A = Answer M} (record { number = lentNumber s n m l; byte = 0; system = s }) (grantLent σ ω s n m l)
+  other-answer s n m l wrong =
+      (λ i. record { number = lentNumber s n m l; byte = 0; system = besideBuffers (sym (own-after m l (s .world .buffers)) i) s })
+      ∙ ap
+      (λ (a : Answer M). record { number = a .number; byte = a .byte; system = besideBuffers (ownBuffersAfter m l (s .world .buffers) (a .system .world .buffers)) (a .system) })
+      (grant-refuses σ (besideBuffers (lentBuffers m l (s .world .buffers)) s) n (lentNumber s n m l) refl wrong)
+
+  other-step : (s : System M) (es : List Event) (n : ℕ) (m : LentMemory σ) (l : LentLatches) → (lentNumber s n m l ≡ 0 → ⊥) → Counts (s .clocks) es (s .world .core .block .counter) → Step n s (grantLent σ ω s n m l) (lentNumber s n m l) (unlessRefused σ (lentNumber s n m l) (grantPassed σ n (pastOf s es)) (pastOf s es) .past)
+  unfolding unlessRefused
+  other-step s es n m l wrong c =
+      subst (λ (a : Answer M). Step n s a (lentNumber s n m l) (unlessRefused σ (lentNumber s n m l) (grantPassed σ n (pastOf s es)) (pastOf s es) .past))
+      (other-answer s n m l wrong)
+      (subst (λ (p : Past M). Step n s (record { number = lentNumber s n m l; byte = 0; system = s }) (lentNumber s n m l) p)
+      (sym (pick-false _ _ _ (ne-eqb _ _ wrong)))
+      (record { number = refl; agree = as-before σ s es c; sum = refused-clocks (lentNumber s n m l) n _ wrong }))
+
+  grant-step : (s : System M) (es : List Event) (n : ℕ) (m : LentMemory σ) (l : LentLatches) → Counts (s .clocks) es (s .world .core .block .counter) → Step n s (grantLent σ ω s n m l) (lentNumber s n m l) (unlessRefused σ (lentNumber s n m l) (grantPassed σ n (pastOf s es)) (pastOf s es) .past)
+  grant-step s es n ownMemory ownLatches c = own-step σ s es n c
+  grant-step s es n ownMemory (otherLatches l wrong) c =
+      other-step s es n ownMemory (otherLatches l wrong) (λ e. wrong (granted σ _ _ _ n e .latches)) c
+  grant-step s es n (otherMemory m wrong) l c =
+      other-step s es n (otherMemory m wrong) l (λ e. wrong (granted σ _ _ _ n e .memory)) c
+
+  -- ---- one entry
+
+  entry-literal : (e : Entry σ C) (s : System M) (es : List Event) → Counts (s .clocks) es (s .world .core .block .counter) → Step (clocksAsked e) s (enter σ ω e s) (pass σ ω e (pastOf s es) .number) (pass σ ω e (pastOf s es) .past)
+  unfolding unlessRefused
+  entry-literal (portWrite port byte) s es c = write-step σ s es port byte _ refl c
+  entry-literal (portRead port) s es c = read-step σ s es port _ refl c
+  entry-literal (clockGrant n m l) s es c = grant-step s es n m l c
+  entry-literal (outsideChange x) s es c =
+      record { number = refl; agree = record { world = refl; sum = refl; counts = c }; sum = no-clocks _ _ }
+
+  entry-step : (e : Entry σ C) (s : System M) (p : Past M) → Agree s p → Step (clocksAsked e) s (enter σ ω e s) (pass σ ω e p .number) (pass σ ω e p .past)
+  entry-step e s p a =
+      subst (λ (q : Past M). Step (clocksAsked e) s (enter σ ω e s) (pass σ ω e q .number) (pass σ ω e q .past))
+      (λ i. record { world = a .world i; sum = a .sum i; events = p .events }) (entry-literal e s (p .events) (a .counts))
+
+  -- ---- a list of entries
+
+  record Ends (es : List (Entry σ C)) (s : System M) (p : Past M) : Type 0 where
+    agree : Agree (run σ ω es s .system) (history σ ω es p .past)
+    sum : total (run σ ω es s .system .clocks) ≡ total (s .clocks) + clocksAccepted es (run σ ω es s .answers)
+    numbers : numbersOf (run σ ω es s .answers) ≡ history σ ω es p .numbers
+
+  ends : (es : List (Entry σ C)) (s : System M) (p : Past M) → Agree s p → Ends es s p
+  unfolding run history clocksAccepted numbersOf
+  ends [] s p a = record { agree = a; sum = sym (add-zero _); numbers = refl }
+  ends (e ∷ es) s p a =
+      let k = entry-step e s p a in
+      let r = ends es (enter σ ω e s .system) (pass σ ω e p .past) (k .agree) in
+      record {
+        agree = r .agree;
+        sum = r .sum ∙ ap (λ (x : ℕ). x + clocksAccepted es (run σ ω es (enter σ ω e s .system) .answers)) (k .sum) ∙ add-assoc _ _ _;
+        numbers = λ i. k .number i ∷ r .numbers i;
+      }
+
+-- ---- splitting a grant
+
+module _ {M : Type 0} (σ : Store M) (keeps : (x : M) (address byte : ℕ) → σ .refusal (σ .store x address byte) ≡ σ .refusal x) where
+  -- what a grant asks of the buffers, a clock keeps
+  record SameBuffers (b d : Buffers M) : Type 0 where
+    memory : σ .refusal (d .memory) ≡ σ .refusal (b .memory)
+    latches : length (d .latches) ≡ length (b .latches)
+
+  put-same : (p : Place) (byte : ℕ) (b : Buffers M) → SameBuffers b (put σ p byte b)
+  unfolding put
+  put-same p byte b =
+      pick-both (SameBuffers b) _ _ _
+      (record { memory = refl; latches = length-set (b .latches) _ _ })
+      (record { memory = keeps (b .memory) _ _; latches = refl })
+
+  step-same : (w : World M) → SameBuffers (w .buffers) (step σ w .buffers)
+  unfolding buffersAfter
+  step-same w =
+      pick-both (SameBuffers (w .buffers)) _ _ _ (put-same _ _ (w .buffers)) (record { memory = refl; latches = refl })
+
+  clocked-same : (n : ℕ) (s : System M) → SameBuffers (s .world .buffers) (clocked σ n s .world .buffers)
+  unfolding clocked
+  clocked-same zero s = record { memory = refl; latches = refl }
+  clocked-same (suc n) s =
+      let h = clocked-same n s in
+      let k = step-same (clocked σ n s .world) in
+      record { memory = k .memory ∙ h .memory; latches = k .latches ∙ h .latches }
+
+  -- a grant of fewer clocks is accepted too, and so is the rest after it
+  granted-fewer : (s : System M) (k n : ℕ) → Granted σ (s .world .core) (total (s .clocks)) (s .world .buffers) (k + n) → Granted σ (s .world .core) (total (s .clocks)) (s .world .buffers) k
+  granted-fewer s k n g = record { state = g .state; memory = g .memory; latches = g .latches; room = omega (arith, g .room) }
+
+  granted-rest : (s : System M) (k n : ℕ) → InRange (s .world .core) → Granted σ (s .world .core) (total (s .clocks)) (s .world .buffers) (k + n) → Granted σ (clocked σ k s .world .core) (total (clocked σ k s .clocks)) (clocked σ k s .world .buffers) n
+  granted-rest s k n r g =
+      let v = valid-sound (s .world .core) (s .clocks) r (g .state) in
+      let t = clocked-total σ k s in
+      let b = clocked-same k s in
+      record {
+        state = sound-valid (clocked σ k s .world .core) (clocked σ k s .clocks) (record { core = clocked-kept σ k s (v .core); sum = omega (arith, g .room) });
+        memory = b .memory ∙ g .memory;
+        latches = b .latches ∙ g .latches;
+        room = omega (arith, g .room);
+      }
+
+  accepted-in-turn : (ns : List ℕ) (s : System M) → InRange (s .world .core) → Granted σ (s .world .core) (total (s .clocks)) (s .world .buffers) (sumOf ns) → AcceptedInTurn σ ns s (clocked σ (sumOf ns) s)
+  unfolding AcceptedInTurn sumOf
+  accepted-in-turn [] s r g = sym (clocked-zero σ s)
+  accepted-in-turn (n ∷ ns) s r g =
+      let e = grantable σ _ _ _ n (granted-fewer s n (sumOf ns) g) in
+      let a = grant-accepts σ s (clocked σ n s) n e refl in
+      let v = valid-sound (s .world .core) (s .clocks) r (g .state) in (
+        sym (ap (λ (x : Answer M). x .number) a),
+        subst (λ (x : Answer M). AcceptedInTurn σ ns (x .system) (clocked σ (n + sumOf ns) s)) a
+            (subst (λ (t : System M). AcceptedInTurn σ ns (clocked σ n s) t) (sym (clocked-add σ n (sumOf ns) s))
+            (accepted-in-turn ns (clocked σ n s) (clocked-kept σ n s (v .core) .range) (granted-rest s n (sumOf ns) r g))),
+      )
+
+  -- an accepted grant has no refusal number, and ends after its clocks
+  accepted-number : (s : System M) (n : ℕ) → grant σ s n .number ≡ 0 → grantNumber σ s n ≡ 0
+  unfolding grant
+  accepted-number s n =
+      pick-cases (λ (a : Answer M). a .number ≡ 0 → grantNumber σ s n ≡ 0) _ _ _ (λ e h. eqb-true _ _ e) (λ e h. h)
+
+  pub grant-splits : Splits σ
+  grant-splits s n r e ns q =
+      let z = accepted-number s n e in
+      subst (λ (t : System M). AcceptedInTurn σ ns s t)
+      (ap (λ (k : ℕ). clocked σ k s) q ∙ ap (λ (a : Answer M). a .system) (grant-accepts σ s (clocked σ n s) n z refl))
+      (accepted-in-turn ns s r (granted σ _ _ _ _ (ap (λ (k : ℕ). grantNumber σ s k) q ∙ z)))
+
+-- ---- the claim
+
+start-agrees : {M : Type 0} (m : M) (l : List ℕ) → Agree (systemAtPowerOn m l) (pastAtPowerOn m l)
+unfolding clocksNoted bytesNoted zeroedNoted
+start-agrees m l =
+    record { world = refl; sum = refl; counts = record { bus = refl; held = refl; cpu = refl; bytes = refl } }
+
+pub demand3 : Demand3
+demand3 M C σ ω keeps m l es =
+    let h = ends σ ω es (systemAtPowerOn m l) (pastAtPowerOn m l) (start-agrees m l) in
+    record {
+      bus = h .agree .counts .bus;
+      held = h .agree .counts .held;
+      cpu = h .agree .counts .cpu;
+      sum = h .sum ∙ zero-add _;
+      bytes = h .agree .counts .bytes;
+      splits = grant-splits σ keeps;
+      world = h .agree .world;
+      numbers = h .numbers;
+    }
+
+-- of the flat memory, from any bytes and any latches
+pub demand3-flat : (m l : List ℕ) (es : List (Entry flat (List Poke))) → Accounted flat flatOutside m l es
+unfolding firstHit
+demand3-flat m l es = demand3 (List ℕ) (List Poke) flat flatOutside (λ x address byte. ap (λ (k : ℕ). firstHit (test 4 (not (eqb k 65536)) ∷ [])) (length-set x address byte)) m l es

@@ -1,0 +1,116 @@
+-- The history of a list (document 01): from the start and the entries' arguments alone, over a state without clock counts.
+-- It shares with the run the refusals, the effects of accepted writes and reads, and the one-clock step; the grant as a
+-- whole, the sum and the notes are its own.
+-- Assumes nothing.
+use Prim.Native.Nat.{ℕ, zero, suc, _+_}
+use mathlib.Core.Bool.{Bool, false}
+use mathlib.Core.List.{List, [], _∷_}
+use mathlib.Core.Option.{Option, none, some}
+use lib.Dec.{eqb}
+use Rattle.rules.specs.Choice.{pick, any}
+use Rattle.rules.specs.PowerOn.{powerOn}
+use Rattle.rules.specs.Pending.{isPending}
+use Rattle.rules.specs.Registers.{written}
+use Rattle.rules.specs.Readback.{readByte}
+use Rattle.rules.specs.Buffers.{Store, Buffers}
+use Rattle.rules.specs.World.{World, Note, step, note}
+use Rattle.rules.specs.Refusals.{accessRefusal, grantRefusal}
+use Rattle.rules.specs.Entries.{Outside, Entry, portWrite, portRead, clockGrant, outsideChange, lentBuffers}
+use Rattle.rules.specs.declared.Core.{Core}
+
+-- what the history notes: a clock, or what the counter held when a Load or a Continue put it to zero
+pub data Event : Type 0 where
+  clockNoted : Note → Event
+  counterZeroed : ℕ → Event
+
+-- the history's state: core, memory and latches, the sum of the clocks accepted so far, and the events, the latest first
+pub record Past (M : Type 0) : Type 0 where
+  pub world : World M
+  pub sum : ℕ
+  pub events : List Event
+
+-- Load and Continue, where they are carried out: no parameter is pending
+unfoldable pub zeroing : ℕ → Core → Bool
+zeroing byte c = pick (isPending (c .pending)) false (any (eqb byte 0xCF ∷ eqb byte 0xD3 ∷ []))
+
+-- the refusal number of an entry, and the state after it
+pub record Passed (M : Type 0) : Type 0 where
+  pub number : ℕ
+  pub past : Past M
+
+-- the refusal numbers of a list's entries, in order, and the state after them
+pub record History (M : Type 0) : Type 0 where
+  pub numbers : List ℕ
+  pub past : Past M
+
+module _ {M : Type 0} (σ : Store M) where
+  abbrev pub withCore : Core → Past M → Past M
+  withCore c p = record { world = record { core = c; buffers = p .world .buffers }; sum = p .sum; events = p .events }
+
+  -- an accepted write, with a note of the counter where it is put to zero
+  unfoldable pub writePassed : ℕ → ℕ → Past M → Past M
+  writePassed port byte p =
+      pick (zeroing byte (p .world .core))
+      (record {
+        world = record { core = written port byte (p .world .core); buffers = p .world .buffers };
+        sum = p .sum;
+        events = counterZeroed (p .world .core .block .counter) ∷ p .events;
+      })
+      (withCore (written port byte (p .world .core)) p)
+
+  -- one clock, noted
+  abbrev pub clockPassed : Past M → Past M
+  clockPassed p =
+      record { world = step σ (p .world); sum = p .sum; events = clockNoted (note σ (p .world)) ∷ p .events }
+
+  -- n clocks, each noted singly
+  unfoldable pub clocksPassed : ℕ → Past M → Past M
+  clocksPassed zero p = p
+  clocksPassed (suc n) p = clockPassed (clocksPassed n p)
+
+  -- an accepted grant: its clocks are added to the sum, and taken singly
+  abbrev pub grantPassed : ℕ → Past M → Past M
+  grantPassed n p = clocksPassed n (record { world = p .world; sum = p .sum + n; events = p .events })
+
+  -- a refused call changes and notes nothing
+  unfoldable pub unlessRefused : ℕ → Past M → Past M → Passed M
+  unlessRefused number accepted p = record { number = number; past = pick (eqb number 0) accepted p }
+
+module _ {M C : Type 0} (σ : Store M) (ω : Outside M C) where
+  -- an outside change of memory replaces bytes and notes nothing
+  abbrev pub changePassed : C → Past M → Past M
+  changePassed x p =
+      record {
+        world =
+            record {
+              core = p .world .core;
+              buffers = record { memory = ω .change x (p .world .buffers .memory); latches = p .world .buffers .latches };
+            };
+        sum = p .sum;
+        events = p .events;
+      }
+
+  -- one entry; refusal 6 is judged by the sum
+  abbrev pub pass : Entry σ C → Past M → Passed M
+  pass (portWrite port byte) p =
+      unlessRefused σ (accessRefusal (p .world .core) (p .sum) port) (writePassed σ port byte p) p
+  pass (portRead port) p =
+      unlessRefused σ (accessRefusal (p .world .core) (p .sum) port) (withCore σ (readByte (p .world .core) .core) p) p
+  pass (clockGrant n m l) p =
+      unlessRefused σ
+      (grantRefusal σ (p .world .core) (p .sum) (lentBuffers m l (p .world .buffers)) n) (grantPassed σ n p) p
+  pass (outsideChange x) p = record { number = 0; past = changePassed x p }
+
+  -- a list of entries
+  unfoldable pub history : List (Entry σ C) → Past M → History M
+  history [] p = record { numbers = []; past = p }
+  history (e ∷ es) p =
+      record {
+        numbers = pass e p .number ∷ history es (pass e p .past) .numbers;
+        past = history es (pass e p .past) .past;
+      }
+
+-- the history begins at power-on with nothing noted
+abbrev pub pastAtPowerOn : {M : Type 0} → M → List ℕ → Past M
+pastAtPowerOn m l =
+    record { world = record { core = powerOn; buffers = record { memory = m; latches = l } }; sum = 0; events = [] }
