@@ -12,5 +12,5 @@ abbrev pub tick : Clock → Tick
 tick x = record { kind = kindCode (x .kind); moves = x .moves; next = x .next }
 
 -- the two buffers that a caller lends
-abbrev pub lent : List ℕ → List ℕ → Buffers (List ℕ)
-lent m l = record { memory = m; latches = l }
+abbrev pub borrowed : List ℕ → List ℕ → Buffers (List ℕ)
+borrowed m l = record { memory = m; latches = l }

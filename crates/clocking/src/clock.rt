@@ -100,7 +100,7 @@ fn new_slot(c: Core) -> Slot
     }
 }
 
-// The core after a byte has moved. The counter has room: a device that moves a byte has not finished its block.
+// The core after a byte has moved. The counter has room: a valid one is at most 65,536.
 fn byte_moved(c: Core) -> Core
     requires { ⌜ c .block .counter < 4294967295 ⌝ }
     ensures { λ r. ⌜ r ≡ moved c ⌝ }
@@ -146,15 +146,8 @@ fn kind_at(n: u16, c: Core) -> u8
 fn slot_cleared(c: Core) -> Core
     ensures { λ r. ⌜ r ≡ withSlot noSlot c ⌝ }
 {
-    let none = Slot {
-        elapsed: 0,
-        bus: 0,
-        length: 0,
-        burst: false,
-    };
-    let mut next = c;
-    next.slot = none;
-    next
+    let none = part::no_slot();
+    part::with_slot(none, c)
 }
 
 // The block has ended and the device is disabled.

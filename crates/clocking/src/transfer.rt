@@ -3,7 +3,7 @@ ghost use mathlib.Core.Path.{_≡_};
 ghost use lib.ListN.{length};
 ghost use Rattle.rules.specs.Buffers.{flat, byteAt, transfer};
 ghost use Rattle.rules.specs.Spans.{buffersBetween};
-ghost use Rattle.clocking.specs.Answers.{lent};
+ghost use Rattle.clocking.specs.Answers.{borrowed};
 use rules::Place;
 
 fn index(x: u16) -> usize
@@ -15,7 +15,7 @@ fn index(x: u16) -> usize
 // The byte at a place.
 fn load(memory: &[u8], latches: &[u8], p: Place) -> u8
     requires { ⌜ (length (now memory) ≡ 65536) × (length (now latches) ≡ 65536) ⌝ }
-    ensures { λ r. ⌜ r ≡ byteAt flat p (lent (now (memory .entry)) (now (latches .entry))) ⌝ }
+    ensures { λ r. ⌜ r ≡ byteAt flat p (borrowed (now (memory .entry)) (now (latches .entry))) ⌝ }
 {
     let at = index(p.address);
     if p.io {
@@ -25,9 +25,9 @@ fn load(memory: &[u8], latches: &[u8], p: Place) -> u8
 }
 
 // One byte moves from one place to the other.
-pub fn move_byte(memory: &mut [u8], latches: &mut [u8], from: Place, to: Place)
+fn move_byte(memory: &mut [u8], latches: &mut [u8], from: Place, to: Place)
     requires { ⌜ (length (now memory) ≡ 65536) × (length (now latches) ≡ 65536) ⌝ }
-    ensures { λ r. ⌜ lent (now (memory .exit)) (now (latches .exit)) ≡ transfer flat from to (lent (now (memory .entry)) (now (latches .entry))) ⌝ }
+    ensures { λ r. ⌜ borrowed (now (memory .exit)) (now (latches .exit)) ≡ transfer flat from to (borrowed (now (memory .entry)) (now (latches .entry))) ⌝ }
 {
     let byte = load(memory, latches, from);
     let at = index(to.address);
@@ -41,7 +41,7 @@ pub fn move_byte(memory: &mut [u8], latches: &mut [u8], from: Place, to: Place)
 // The byte moves where `moves` holds.
 pub fn move_if(moves: bool, memory: &mut [u8], latches: &mut [u8], from: Place, to: Place)
     requires { ⌜ (length (now memory) ≡ 65536) × (length (now latches) ≡ 65536) ⌝ }
-    ensures { λ r. ⌜ lent (now (memory .exit)) (now (latches .exit)) ≡ buffersBetween flat moves from to (lent (now (memory .entry)) (now (latches .entry))) ⌝ }
+    ensures { λ r. ⌜ borrowed (now (memory .exit)) (now (latches .exit)) ≡ buffersBetween flat moves from to (borrowed (now (memory .entry)) (now (latches .entry))) ⌝ }
 {
     if moves {
         move_byte(memory, latches, from, to);

@@ -38,23 +38,37 @@ pub fn enabled(c: Core) -> Core
     next
 }
 
+// Status 3A: E set, T clear.
+pub fn status_at_reset() -> Status
+    ensures { λ r. ⌜ r ≡ statusAtReset ⌝ }
+{
+    Status { e: true, t: false }
+}
+
+// Mask 7F, reading from the start, no status read waiting.
+pub fn readback_at_reset() -> Readback
+    ensures { λ r. ⌜ r ≡ readbackAtReset ⌝ }
+{
+    Readback {
+        mask: 127,
+        position: 0,
+        waiting: false,
+    }
+}
+
 // The status byte becomes 3A.
 fn status_reset(c: Core) -> Core
     ensures { λ r. ⌜ r ≡ withStatus statusAtReset c ⌝ }
 {
-    let status = Status { e: true, t: false };
+    let status = status_at_reset();
     part::with_status(status, c)
 }
 
-// Mask 7F, reading from the start, no status read waiting.
+// Reading as after a reset.
 fn readback_reset(c: Core) -> Core
     ensures { λ r. ⌜ r ≡ withReadback readbackAtReset c ⌝ }
 {
-    let readback = Readback {
-        mask: 127,
-        position: 0,
-        waiting: false,
-    };
+    let readback = readback_at_reset();
     part::with_readback(readback, c)
 }
 
@@ -99,7 +113,7 @@ fn reset_all(c: Core) -> Core
 }
 
 // Continue: counter 0.
-pub fn continued(c: Core) -> Core
+fn continued(c: Core) -> Core
     ensures { λ r. ⌜ r ≡ continue c ⌝ }
 {
     let mut next = c;
@@ -139,7 +153,7 @@ fn status_asked(c: Core) -> Core
 }
 
 // The read mask is pending.
-fn mask_awaited(c: Core) -> Core
+fn mask_pending(c: Core) -> Core
     ensures { λ r. ⌜ r ≡ withPending maskAsked c ⌝ }
 {
     let p = pending::mask_asked();
@@ -160,7 +174,7 @@ fn reading_command(byte: u8, c: Core) -> Core
         return reading_restarted(c);
     }
     if byte == 0xBB {
-        return mask_awaited(c);
+        return mask_pending(c);
     }
     c
 }

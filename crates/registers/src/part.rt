@@ -1,6 +1,7 @@
-// A core with one part replaced.
+// A core with one part replaced, and the parts that stand for nothing.
 ghost use mathlib.Core.Path.{_≡_};
-ghost use Rattle.rules.specs.Parts.{withA, withB, withBlock, withControl, withStatus, withReadback, withPending, withEnabled};
+ghost use Rattle.rules.specs.Parts.{withA, withB, withStatus, withReadback, withPending, withSlot};
+ghost use Rattle.rules.specs.Slots.{noSlot};
 ghost use Rattle.rules.specs.Commands.{disable};
 use rules::Block;
 use rules::Control;
@@ -11,6 +12,7 @@ use rules::Readback;
 use rules::Slot;
 use rules::Status;
 
+// With another port A.
 pub fn with_a(p: Port, c: Core) -> Core
     ensures { λ r. ⌜ r ≡ withA p c ⌝ }
 {
@@ -19,6 +21,7 @@ pub fn with_a(p: Port, c: Core) -> Core
     next
 }
 
+// With another port B.
 pub fn with_b(p: Port, c: Core) -> Core
     ensures { λ r. ⌜ r ≡ withB p c ⌝ }
 {
@@ -27,22 +30,7 @@ pub fn with_b(p: Port, c: Core) -> Core
     next
 }
 
-pub fn with_block(b: Block, c: Core) -> Core
-    ensures { λ r. ⌜ r ≡ withBlock b c ⌝ }
-{
-    let mut next = c;
-    next.block = b;
-    next
-}
-
-pub fn with_control(k: Control, c: Core) -> Core
-    ensures { λ r. ⌜ r ≡ withControl k c ⌝ }
-{
-    let mut next = c;
-    next.control = k;
-    next
-}
-
+// With another status.
 pub fn with_status(s: Status, c: Core) -> Core
     ensures { λ r. ⌜ r ≡ withStatus s c ⌝ }
 {
@@ -51,6 +39,7 @@ pub fn with_status(s: Status, c: Core) -> Core
     next
 }
 
+// With another read-back state.
 pub fn with_readback(r: Readback, c: Core) -> Core
     ensures { λ x. ⌜ x ≡ withReadback r c ⌝ }
 {
@@ -59,6 +48,7 @@ pub fn with_readback(r: Readback, c: Core) -> Core
     next
 }
 
+// With other parameters pending.
 pub fn with_pending(p: Pending, c: Core) -> Core
     ensures { λ r. ⌜ r ≡ withPending p c ⌝ }
 {
@@ -67,16 +57,32 @@ pub fn with_pending(p: Pending, c: Core) -> Core
     next
 }
 
-// Disabled, and a running wait dropped.
-pub fn disabled(c: Core) -> Core
-    ensures { λ r. ⌜ r ≡ disable c ⌝ }
+// A slot of which no clock has elapsed.
+pub fn no_slot() -> Slot
+    ensures { λ r. ⌜ r ≡ noSlot ⌝ }
 {
-    let none = Slot {
+    Slot {
         elapsed: 0,
         bus: 0,
         length: 0,
         burst: false,
-    };
+    }
+}
+
+// With another slot.
+pub fn with_slot(s: Slot, c: Core) -> Core
+    ensures { λ r. ⌜ r ≡ withSlot s c ⌝ }
+{
+    let mut next = c;
+    next.slot = s;
+    next
+}
+
+// Disabled, and a running wait dropped.
+pub fn disabled(c: Core) -> Core
+    ensures { λ r. ⌜ r ≡ disable c ⌝ }
+{
+    let none = no_slot();
     let mut next = c;
     next.enabled = false;
     next.slot = none;

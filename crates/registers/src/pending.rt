@@ -1,10 +1,31 @@
-// The pending parameters. No other module looks into the sequence.
+// The pending parameters: codes, the next one first. No other module looks into the sequence.
 ghost use mathlib.Core.Path.{_≡_};
-ghost use Rattle.rules.specs.Pending.{nothing, isPending, rest, ask, wr0Asks, wr1Asks, wr2Asks, wr4Asks, maskAsked, follows, validPending};
+ghost use Rattle.rules.specs.Pending.{nothing, isPending, next, rest, ask, wr0Asks, wr1Asks, wr2Asks, wr4Asks, maskAsked, follows, validPending};
 use rules::Pending;
 
+// The codes, in the order of the register table.
+pub const A_LOW: u8 = 1;
+
+pub const A_HIGH: u8 = 2;
+
+pub const LENGTH_LOW: u8 = 3;
+
+pub const LENGTH_HIGH: u8 = 4;
+
+pub const A_TIMING: u8 = 5;
+
+pub const B_TIMING: u8 = 6;
+
+pub const PRESCALER: u8 = 7;
+
+pub const B_LOW: u8 = 8;
+
+pub const B_HIGH: u8 = 9;
+
+pub const READ_MASK: u8 = 10;
+
 // Nothing is pending.
-fn none() -> Pending
+pub fn none() -> Pending
     ensures { λ r. ⌜ r ≡ nothing ⌝ }
 {
     Pending {
@@ -20,6 +41,13 @@ pub fn is_pending(p: Pending) -> bool
     ensures { λ r. ⌜ r ≡ isPending p ⌝ }
 {
     p.first != 0
+}
+
+// The code of the next one, 0 for none.
+pub fn next_code(p: Pending) -> u8
+    ensures { λ r. ⌜ r ≡ next p ⌝ }
+{
+    p.first
 }
 
 // Those after the next one.
@@ -53,32 +81,32 @@ pub fn asked(wanted: bool, code: u8, p: Pending) -> Pending
 pub fn wr0_asks(byte: u8) -> Pending
     ensures { λ r. ⌜ r ≡ wr0Asks byte ⌝ }
 {
-    let last = asked(byte / 64 % 2 == 1, 4, none());
-    let third = asked(byte / 32 % 2 == 1, 3, last);
-    let second = asked(byte / 16 % 2 == 1, 2, third);
-    asked(byte / 8 % 2 == 1, 1, second)
+    let last = asked(byte / 64 % 2 == 1, LENGTH_HIGH, none());
+    let third = asked(byte / 32 % 2 == 1, LENGTH_LOW, last);
+    let second = asked(byte / 16 % 2 == 1, A_HIGH, third);
+    asked(byte / 8 % 2 == 1, A_LOW, second)
 }
 
 // What WR1 asks for.
 pub fn wr1_asks(byte: u8) -> Pending
     ensures { λ r. ⌜ r ≡ wr1Asks byte ⌝ }
 {
-    asked(byte / 64 % 2 == 1, 5, none())
+    asked(byte / 64 % 2 == 1, A_TIMING, none())
 }
 
 // What WR2 asks for.
 pub fn wr2_asks(byte: u8) -> Pending
     ensures { λ r. ⌜ r ≡ wr2Asks byte ⌝ }
 {
-    asked(byte / 64 % 2 == 1, 6, none())
+    asked(byte / 64 % 2 == 1, B_TIMING, none())
 }
 
 // What WR4 asks for.
 pub fn wr4_asks(byte: u8) -> Pending
     ensures { λ r. ⌜ r ≡ wr4Asks byte ⌝ }
 {
-    let last = asked(byte / 8 % 2 == 1, 9, none());
-    asked(byte / 4 % 2 == 1, 8, last)
+    let last = asked(byte / 8 % 2 == 1, B_HIGH, none());
+    asked(byte / 4 % 2 == 1, B_LOW, last)
 }
 
 // The read mask, after BB.
@@ -86,7 +114,7 @@ pub fn mask_asked() -> Pending
     ensures { λ r. ⌜ r ≡ maskAsked ⌝ }
 {
     Pending {
-        first: 10,
+        first: READ_MASK,
         second: 0,
         third: 0,
         fourth: 0,
@@ -97,8 +125,8 @@ pub fn mask_asked() -> Pending
 fn may_follow(x: u8, y: u8) -> bool
     ensures { λ r. ⌜ r ≡ follows x y ⌝ }
 {
-    let in_wr0 = (1 <= x) & ((x < y) & (y <= 4));
-    let in_wr4 = (8 <= x) & ((x < y) & (y <= 9));
+    let in_wr0 = (A_LOW <= x) & ((x < y) & (y <= LENGTH_HIGH));
+    let in_wr4 = (B_LOW <= x) & ((x < y) & (y <= B_HIGH));
     (y == 0) | (in_wr0 | in_wr4)
 }
 
@@ -109,5 +137,5 @@ pub fn is_valid(p: Pending) -> bool
     let second = may_follow(p.first, p.second);
     let third = may_follow(p.second, p.third);
     let fourth = may_follow(p.third, p.fourth);
-    (p.first <= 10) & (second & (third & fourth))
+    (p.first <= READ_MASK) & (second & (third & fourth))
 }

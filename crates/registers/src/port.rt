@@ -34,7 +34,7 @@ pub fn configure(byte: u8, p: Port) -> Port
 }
 
 // The cycle that a timing byte asks for.
-pub fn cycle_of(byte: u8) -> u8
+fn cycle_of(byte: u8) -> u8
     ensures { λ r. ⌜ r ≡ cycleOf byte ⌝ }
 {
     if byte % 4 == 1 {
@@ -51,13 +51,9 @@ pub fn time(byte: u8, p: Port) -> Port
     ensures { λ r. ⌜ r ≡ timed byte p ⌝ }
 {
     let cycle = cycle_of(byte);
-    Port {
-        address: p.address,
-        pointer: p.pointer,
-        io: p.io,
-        step: p.step,
-        cycle,
-    }
+    let mut next = p;
+    next.cycle = cycle;
+    next
 }
 
 // The low byte of the starting address.
@@ -65,13 +61,9 @@ pub fn address_low(byte: u8, p: Port) -> Port
     ensures { λ r. ⌜ r ≡ addressedLow byte p ⌝ }
 {
     let address = with_low(byte, p.address);
-    Port {
-        address,
-        pointer: p.pointer,
-        io: p.io,
-        step: p.step,
-        cycle: p.cycle,
-    }
+    let mut next = p;
+    next.address = address;
+    next
 }
 
 // The high byte of the starting address.
@@ -79,37 +71,26 @@ pub fn address_high(byte: u8, p: Port) -> Port
     ensures { λ r. ⌜ r ≡ addressedHigh byte p ⌝ }
 {
     let address = with_high(byte, p.address);
-    Port {
-        address,
-        pointer: p.pointer,
-        io: p.io,
-        step: p.step,
-        cycle: p.cycle,
-    }
+    let mut next = p;
+    next.address = address;
+    next
 }
 
 // The cycle after a reset of the timing.
 pub fn reset_timing(p: Port) -> Port
     ensures { λ r. ⌜ r ≡ resetTiming p ⌝ }
 {
-    Port {
-        address: p.address,
-        pointer: p.pointer,
-        io: p.io,
-        step: p.step,
-        cycle: 4,
-    }
+    let mut next = p;
+    next.cycle = 4;
+    next
 }
 
 // The pointer takes the starting address.
 pub fn load(p: Port) -> Port
     ensures { λ r. ⌜ r ≡ loaded p ⌝ }
 {
-    Port {
-        address: p.address,
-        pointer: p.address,
-        io: p.io,
-        step: p.step,
-        cycle: p.cycle,
-    }
+    let address = p.address;
+    let mut next = p;
+    next.pointer = address;
+    next
 }

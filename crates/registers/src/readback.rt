@@ -42,7 +42,7 @@ fn high(n: u32) -> u8
     (n / 256 % 256) as u8
 }
 
-// The bytes of the counter, of A's pointer or of B's.
+// A pointer in 32 bits.
 fn wide(x: u16) -> u32
     ensures { λ r. ⌜ r ≡ x ⌝ }
 {

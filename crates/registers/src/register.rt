@@ -197,10 +197,10 @@ fn b_timing_written(byte: u8, c: Core) -> Core
 {
     let p = c.b;
     let p = port::time(byte, p);
-    let awaited = c.pending;
-    let awaited = pending::asked(byte / 32 % 2 == 1, 7, awaited);
+    let codes = c.pending;
+    let codes = pending::asked(byte / 32 % 2 == 1, pending::PRESCALER, codes);
     let c = part::with_b(p, c);
-    part::with_pending(awaited, c)
+    part::with_pending(codes, c)
 }
 
 // The low byte of the length.
@@ -247,31 +247,31 @@ fn mask_written(byte: u8, c: Core) -> Core
 fn write_parameter(code: u8, byte: u8, c: Core) -> Core
     ensures { λ r. ⌜ r ≡ parameter code byte c ⌝ }
 {
-    if code == 1 {
+    if code == pending::A_LOW {
         return a_low_written(byte, c);
     }
-    if code == 2 {
+    if code == pending::A_HIGH {
         return a_high_written(byte, c);
     }
-    if code == 3 {
+    if code == pending::LENGTH_LOW {
         return length_low_written(byte, c);
     }
-    if code == 4 {
+    if code == pending::LENGTH_HIGH {
         return length_high_written(byte, c);
     }
-    if code == 5 {
+    if code == pending::A_TIMING {
         return a_timing_written(byte, c);
     }
-    if code == 6 {
+    if code == pending::B_TIMING {
         return b_timing_written(byte, c);
     }
-    if code == 7 {
+    if code == pending::PRESCALER {
         return prescaler_written(byte, c);
     }
-    if code == 8 {
+    if code == pending::B_LOW {
         return b_low_written(byte, c);
     }
-    if code == 9 {
+    if code == pending::B_HIGH {
         return b_high_written(byte, c);
     }
     mask_written(byte, c)
@@ -281,9 +281,9 @@ fn write_parameter(code: u8, byte: u8, c: Core) -> Core
 fn take_parameter(byte: u8, c: Core) -> Core
     ensures { λ r. ⌜ r ≡ takeParameter byte c ⌝ }
 {
-    let awaited = c.pending;
-    let code = awaited.first;
-    let later = pending::after_first(awaited);
+    let codes = c.pending;
+    let code = pending::next_code(codes);
+    let later = pending::after_first(codes);
     let c = part::with_pending(later, c);
     write_parameter(code, byte, c)
 }
@@ -302,8 +302,8 @@ fn in_mode(port: u16, c: Core) -> Core
 fn take_effect(byte: u8, c: Core) -> Core
     ensures { λ r. ⌜ r ≡ effect byte c ⌝ }
 {
-    let awaited = c.pending;
-    if pending::is_pending(awaited) {
+    let codes = c.pending;
+    if pending::is_pending(codes) {
         return take_parameter(byte, c);
     }
     write_register(byte, c)

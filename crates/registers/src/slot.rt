@@ -5,7 +5,7 @@ use rules::Core;
 use rules::Slot;
 
 // The device waits in a burst slot.
-pub fn is_waiting(s: Slot) -> bool
+fn is_waiting(s: Slot) -> bool
     ensures { λ r. ⌜ r ≡ waiting s ⌝ }
 {
     s.burst & ((s.bus <= s.elapsed) & (s.elapsed < s.length))

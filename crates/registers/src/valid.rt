@@ -12,24 +12,31 @@ use rules::Port;
 use rules::Readback;
 use rules::Slot;
 
+// The largest number of 64 bits.
+pub const MOST: u64 = 18446744073709551615;
+
+// The cycle is 2 to 4 clocks.
 fn valid_port(p: Port) -> bool
     ensures { λ r. ⌜ r ≡ validPort p ⌝ }
 {
     (2 <= p.cycle) & (p.cycle <= 4)
 }
 
+// The mask has seven bits, and the position is one of seven registers.
 fn valid_readback(r: Readback) -> bool
     ensures { λ x. ⌜ x ≡ validReadback r ⌝ }
 {
     (r.mask <= 127) & (r.position <= 6)
 }
 
+// With no clock elapsed the slot's figures are 0 and continuous.
 fn resting_slot(s: Slot) -> bool
     ensures { λ r. ⌜ r ≡ restingSlot s ⌝ }
 {
     (s.bus == 0) & ((s.length == 0) & !s.burst)
 }
 
+// The length is the bus time, or a multiple of 32 from 32 to 8,160.
 fn valid_length(s: Slot) -> bool
     ensures { λ r. ⌜ r ≡ validLength s ⌝ }
 {
@@ -37,6 +44,7 @@ fn valid_length(s: Slot) -> bool
     (s.length == s.bus) | prescaled
 }
 
+// With clocks elapsed the bus time and the length are within their bounds, and the length is not reached.
 fn running_slot(s: Slot) -> bool
     ensures { λ r. ⌜ r ≡ runningSlot s ⌝ }
 {
@@ -44,6 +52,7 @@ fn running_slot(s: Slot) -> bool
     (4 <= s.bus) & ((s.bus <= 8) & (length & (s.elapsed < s.length)))
 }
 
+// Clocks have elapsed only while the device is enabled.
 fn valid_slot(enabled: bool, s: Slot) -> bool
     ensures { λ r. ⌜ r ≡ validSlot enabled s ⌝ }
 {
@@ -54,6 +63,7 @@ fn valid_slot(enabled: bool, s: Slot) -> bool
     enabled & running
 }
 
+// An enabled device whose byte has not moved has not finished its block.
 fn valid_progress(enabled: bool, b: Block, s: Slot) -> bool
     ensures { λ r. ⌜ r ≡ validProgress enabled b s ⌝ }
 {
@@ -70,13 +80,13 @@ pub fn valid_core(c: Core) -> bool
     let b = c.b;
     let block = c.block;
     let readback = c.readback;
-    let awaited = c.pending;
+    let codes = c.pending;
     let slot = c.slot;
     let port_a = valid_port(a);
     let port_b = valid_port(b);
     let counter = block.counter <= 65536;
     let reading = valid_readback(readback);
-    let sequence = pending::is_valid(awaited);
+    let sequence = pending::is_valid(codes);
     let figures = valid_slot(c.enabled, slot);
     let progress = valid_progress(c.enabled, block, slot);
     port_a & (port_b & (counter & (reading & (sequence & (figures & progress)))))
@@ -86,11 +96,11 @@ pub fn valid_core(c: Core) -> bool
 pub fn fits(k: Clocks) -> bool
     ensures { λ r. ⌜ r ≡ leb (total k) most64 ⌝ }
 {
-    if 18446744073709551615 - k.bus < k.held {
+    if MOST - k.bus < k.held {
         return false;
     }
     let both = k.bus + k.held;
-    if 18446744073709551615 - both < k.cpu {
+    if MOST - both < k.cpu {
         return false;
     }
     true

@@ -10,7 +10,7 @@ use mathlib.Core.Bool.{Bool, true, false, not}
 use mathlib.Core.List.{List, [], _∷_}
 use mathlib.Core.Option.{Option, none, some}
 use lib.Dec.{eqb}
-use lib.ListN.{length, length-set}
+use lib.ListN.{length, set, length-set}
 use borrow.Author.Tests.{eqb-true, eqb-false, eq-eqb, ne-eqb}
 use Rattle.rules.specs.Choice.{pick, test, firstHit}
 use Rattle.rules.specs.Validity.{total, most64}
@@ -22,15 +22,16 @@ use Rattle.rules.specs.Buffers.{Store, flat, Buffers, put, source, desti
 use Rattle.rules.specs.World.{World, System, Move, Note, buffersAfter, step, note, stepCounted, clocked}
 use Rattle.rules.specs.Refusals.{accessRefusal, grantRefusal}
 use Rattle.rules.specs.Calls.{Reply, Answer, accepted, refused, writeReply, readReply, beside, write, read, grantNumber, grant}
-use Rattle.rules.specs.Entries.{Outside, Poke, flatOutside, LentMemory, ownMemory, otherMemory, LentLatches, ownLatches, otherLatches, Entry, portWrite, portRead, clockGrant, outsideChange, Answered, Run, besideBuffers, lentBuffers, ownBuffersAfter, grantLent, changed, enter, run, systemAtPowerOn}
-use Rattle.rules.specs.History.{Event, clockNoted, counterZeroed, Past, zeroing, Passed, History, withCore, writePassed, clockPassed, clocksPassed, grantPassed, unlessRefused, changePassed, pass, history, pastAtPowerOn}
-use Rattle.rules.specs.Accounts.{ofKind, clocksNoted, moved, bytesNoted, heldBefore, zeroedNoted, clocksAsked, clocksAccepted, numbersOf, sumOf, AcceptedInTurn, Splits, Accounted, Demand3}
+use Rattle.rules.specs.Entries.{Outside, Poke, poked, flatOutside, BorrowedMemory, ownMemory, otherMemory, BorrowedLatches, ownLatches, otherLatches, Entry, portWrite, portRead, clockGrant, outsideChange, Answered, Run, besideBuffers, borrowedBuffers, ownBuffersAfter, grantBorrowed, changedOutside, enter, run, systemAtPowerOn}
+use Rattle.rules.specs.History.{Event, clockNoted, counterZeroed, Past, zeroing, EntryNoted, History, withCore, writePassed, clockPassed, clocksPassed, grantPassed, unlessRefused, changePassed, noteEntry, history, pastAtPowerOn}
+use Rattle.rules.specs.Accounts.{ofKind, clocksNoted, bytesOf, bytesNoted, heldBefore, zeroedNoted, clocksAsked, clocksAccepted, numbersOf, sumOf, AcceptedInTurn, Splits, StoreKeepsRefusal, Accounted, Demand3, Demand3Flat, ZeroNoted, PokesKeepLength}
+use Rattle.rules.specs.Opened.{opened}
 use Rattle.rules.specs.declared.Place.{Place}
 use Rattle.rules.specs.declared.Clocks.{Clocks}
 use Rattle.rules.specs.declared.Core.{Core}
 use Rattle.rules.proofs.Choice.{clash, pick-cases, pick-both, pick-true, pick-false, pick-ap, either}
 use Rattle.rules.proofs.Counting.{clocked-zero, clocked-suc, clocked-add, clocked-total, clocked-kept}
-use Rattle.rules.proofs.Calls.{Granted, granted, grantable, grant-accepts, grant-refuses, valid-sound, sound-valid}
+use Rattle.rules.proofs.Calls.{Granted, granted, grantable, grant-accepts, grant-refuses, valid-device, device-valid}
 use Rattle.rules.proofs.Counter.{write-zero, write-same, read-same, clock-balanced}
 
 -- two choices by one test
@@ -48,7 +49,7 @@ record Counts (k : Clocks) (es : List Event) (counter : ℕ) : Type 0 where
   bytes : bytesNoted es ≡ zeroedNoted es + counter
 
 -- one clock counted and noted
-counts-clock : (k : Clocks) (es : List Event) (before after : ℕ) (n : Note) → heldBefore (n .zeroed) + after ≡ before + moved (n .move) → Counts k es before → Counts (counted (n .kind) k) (clockNoted n ∷ es) after
+counts-clock : (k : Clocks) (es : List Event) (before after : ℕ) (n : Note) → heldBefore (n .zeroed) + after ≡ before + bytesOf (n .move) → Counts k es before → Counts (counted (n .kind) k) (clockNoted n ∷ es) after
 unfolding clocksNoted bytesNoted zeroedNoted
 counts-clock k es before after n b c =
     record { bus = at-bus (n .kind); held = at-held (n .kind); cpu = at-cpu (n .kind); bytes = omega (arith, c .bytes) }
@@ -106,9 +107,9 @@ granted-clocks asked n = ap (λ (j : ℕ). n + j) (sym (pick-true _ _ _ refl))
 
 module _ {M : Type 0} (σ : Store M) where
   -- a clock's note balances the counter
-  note-balanced : (w : World M) → heldBefore (note σ w .zeroed) + step σ w .core .block .counter ≡ w .core .block .counter + moved (note σ w .move)
+  note-balanced : (w : World M) → heldBefore (note σ w .zeroed) + step σ w .core .block .counter ≡ w .core .block .counter + bytesOf (note σ w .move)
   note-balanced w =
-      clock-balanced (w .core) ∙ ap (λ (k : ℕ). w .core .block .counter + k) (sym (pick-ap moved (clockOf (w .core) .moves) _ _))
+      clock-balanced (w .core) ∙ ap (λ (k : ℕ). w .core .block .counter + k) (sym (pick-ap bytesOf (clockOf (w .core) .moves) _ _))
 
   -- n clocks
   record Clocked (s : System M) (p : Past M) : Type 0 where
@@ -136,7 +137,7 @@ module _ {M : Type 0} (σ : Store M) where
 
   -- ---- a port write
 
-  written-agrees : (s : System M) (es : List Event) (port byte : ℕ) → Counts (s .clocks) es (s .world .core .block .counter) → Agree (record { world = record { core = written port byte (s .world .core); buffers = s .world .buffers }; clocks = s .clocks }) (writePassed σ port byte (pastOf s es))
+  written-agrees : (s : System M) (es : List Event) (port byte : ℕ) → Counts (s .clocks) es (s .world .core .block .counter) → Agree (record { world = record { core = written port byte (s .world .core); buffers = s .world .buffers }; clocks = s .clocks }) (writePassed port byte (pastOf s es))
   unfolding writePassed
   written-agrees s es port byte c =
       pick-cases
@@ -145,24 +146,24 @@ module _ {M : Type 0} (σ : Store M) where
       (λ z. record { world = refl; sum = refl; counts = counts-zeroed _ es _ _ (write-zero port byte (s .world .core) z) c })
       (λ z. record { world = refl; sum = refl; counts = counts-same _ es _ _ (write-same port byte (s .world .core) z) c })
 
-  -- nothing has changed
+  -- nothing has changedOutside
   as-before : (s : System M) (es : List Event) → Counts (s .clocks) es (s .world .core .block .counter) → Agree s (pastOf s es)
   as-before s es c = record { world = refl; sum = refl; counts = c }
 
-  write-step : (s : System M) (es : List Event) (port byte n : ℕ) → n ≡ accessRefusal (s .world .core) (total (s .clocks)) port → Counts (s .clocks) es (s .world .core .block .counter) → Step 0 s (write σ s port byte) n (unlessRefused σ n (writePassed σ port byte (pastOf s es)) (pastOf s es) .past)
+  write-step : (s : System M) (es : List Event) (port byte n : ℕ) → n ≡ accessRefusal (s .world .core) (total (s .clocks)) port → Counts (s .clocks) es (s .world .core .block .counter) → Step 0 s (write s port byte) n (unlessRefused n (writePassed port byte (pastOf s es)) (pastOf s es) .past)
   unfolding writeReply unlessRefused
   write-step s es port byte n e c =
       rw e
-      (both-picked (λ (r : Reply) (q : Past M). Step 0 s (beside σ (s .world .buffers) r) (accessRefusal (s .world .core) (total (s .clocks)) port) q)
+      (both-picked (λ (r : Reply) (q : Past M). Step 0 s (beside (s .world .buffers) r) (accessRefusal (s .world .core) (total (s .clocks)) port) q)
       _ _ _ _ _
       (λ d. record { number = sym (eqb-true _ _ d); agree = written-agrees s es port byte c; sum = no-clocks _ _ })
       (λ d. record { number = refl; agree = as-before s es c; sum = no-clocks _ _ }))
 
-  read-step : (s : System M) (es : List Event) (port n : ℕ) → n ≡ accessRefusal (s .world .core) (total (s .clocks)) port → Counts (s .clocks) es (s .world .core .block .counter) → Step 0 s (read σ s port) n (unlessRefused σ n (withCore σ (readByte (s .world .core) .core) (pastOf s es)) (pastOf s es) .past)
+  read-step : (s : System M) (es : List Event) (port n : ℕ) → n ≡ accessRefusal (s .world .core) (total (s .clocks)) port → Counts (s .clocks) es (s .world .core .block .counter) → Step 0 s (read s port) n (unlessRefused n (withCore (readByte (s .world .core) .core) (pastOf s es)) (pastOf s es) .past)
   unfolding readReply unlessRefused
   read-step s es port n e c =
       rw e
-      (both-picked (λ (r : Reply) (q : Past M). Step 0 s (beside σ (s .world .buffers) r) (accessRefusal (s .world .core) (total (s .clocks)) port) q)
+      (both-picked (λ (r : Reply) (q : Past M). Step 0 s (beside (s .world .buffers) r) (accessRefusal (s .world .core) (total (s .clocks)) port) q)
       _ _ _ _ _
       (λ d.
       record {
@@ -180,7 +181,7 @@ module _ {M : Type 0} (σ : Store M) where
       let k = clocks-agree n s p (record { world = refl; counts = c }) in
       record { world = k .world; sum = clocked-total σ n s ∙ sym (clocks-sum n p); counts = k .counts }
 
-  own-step : (s : System M) (es : List Event) (n : ℕ) → Counts (s .clocks) es (s .world .core .block .counter) → Step n s (grant σ s n) (grantNumber σ s n) (unlessRefused σ (grantNumber σ s n) (grantPassed σ n (pastOf s es)) (pastOf s es) .past)
+  own-step : (s : System M) (es : List Event) (n : ℕ) → Counts (s .clocks) es (s .world .core .block .counter) → Step n s (grant σ s n) (grantNumber σ s n) (unlessRefused (grantNumber σ s n) (grantPassed σ n (pastOf s es)) (pastOf s es) .past)
   unfolding grant unlessRefused
   own-step s es n c =
       both-picked (λ (a : Answer M) (q : Past M). Step n s a (grantNumber σ s n) q) _ _ _ _ _
@@ -189,34 +190,34 @@ module _ {M : Type 0} (σ : Store M) where
 
 module _ {M C : Type 0} (σ : Store M) (ω : Outside M C) where
   -- the list keeps its own buffers
-  own-after : (m : LentMemory σ) (l : LentLatches) (b : Buffers M) → ownBuffersAfter m l b (lentBuffers m l b) ≡ b
+  own-after : (m : BorrowedMemory σ) (l : BorrowedLatches) (b : Buffers M) → ownBuffersAfter m l b (borrowedBuffers m l b) ≡ b
   own-after ownMemory ownLatches b = refl
   own-after ownMemory (otherLatches l wrong) b = refl
   own-after (otherMemory m wrong) ownLatches b = refl
   own-after (otherMemory m wrong) (otherLatches l bad) b = refl
 
   -- the refusal number of a grant with the buffers lent
-  abbrev lentNumber : System M → ℕ → LentMemory σ → LentLatches → ℕ
-  lentNumber s n m l = grantRefusal σ (s .world .core) (total (s .clocks)) (lentBuffers m l (s .world .buffers)) n
+  abbrev borrowedNumber : System M → ℕ → BorrowedMemory σ → BorrowedLatches → ℕ
+  borrowedNumber s n m l = grantRefusal σ (s .world .core) (total (s .clocks)) (borrowedBuffers m l (s .world .buffers)) n
 
   -- a grant with other buffers is refused, and nothing changes
-  other-answer : (s : System M) (n : ℕ) (m : LentMemory σ) (l : LentLatches) → (lentNumber s n m l ≡ 0 → ⊥) → _≡_ {A = Answer M} (record { number = lentNumber s n m l; byte = 0; system = s }) (grantLent σ ω s n m l)
+  other-answer : (s : System M) (n : ℕ) (m : BorrowedMemory σ) (l : BorrowedLatches) → (borrowedNumber s n m l ≡ 0 → ⊥) → _≡_ {A = Answer M} (record { number = borrowedNumber s n m l; byte = 0; system = s }) (grantBorrowed σ ω s n m l)
   other-answer s n m l wrong =
-      (λ i. record { number = lentNumber s n m l; byte = 0; system = besideBuffers (sym (own-after m l (s .world .buffers)) i) s })
+      (λ i. record { number = borrowedNumber s n m l; byte = 0; system = besideBuffers (sym (own-after m l (s .world .buffers)) i) s })
       ∙ ap
       (λ (a : Answer M). record { number = a .number; byte = a .byte; system = besideBuffers (ownBuffersAfter m l (s .world .buffers) (a .system .world .buffers)) (a .system) })
-      (grant-refuses σ (besideBuffers (lentBuffers m l (s .world .buffers)) s) n (lentNumber s n m l) refl wrong)
+      (grant-refuses σ (besideBuffers (borrowedBuffers m l (s .world .buffers)) s) n (borrowedNumber s n m l) refl wrong)
 
-  other-step : (s : System M) (es : List Event) (n : ℕ) (m : LentMemory σ) (l : LentLatches) → (lentNumber s n m l ≡ 0 → ⊥) → Counts (s .clocks) es (s .world .core .block .counter) → Step n s (grantLent σ ω s n m l) (lentNumber s n m l) (unlessRefused σ (lentNumber s n m l) (grantPassed σ n (pastOf s es)) (pastOf s es) .past)
+  other-step : (s : System M) (es : List Event) (n : ℕ) (m : BorrowedMemory σ) (l : BorrowedLatches) → (borrowedNumber s n m l ≡ 0 → ⊥) → Counts (s .clocks) es (s .world .core .block .counter) → Step n s (grantBorrowed σ ω s n m l) (borrowedNumber s n m l) (unlessRefused (borrowedNumber s n m l) (grantPassed σ n (pastOf s es)) (pastOf s es) .past)
   unfolding unlessRefused
   other-step s es n m l wrong c =
-      subst (λ (a : Answer M). Step n s a (lentNumber s n m l) (unlessRefused σ (lentNumber s n m l) (grantPassed σ n (pastOf s es)) (pastOf s es) .past))
+      subst (λ (a : Answer M). Step n s a (borrowedNumber s n m l) (unlessRefused (borrowedNumber s n m l) (grantPassed σ n (pastOf s es)) (pastOf s es) .past))
       (other-answer s n m l wrong)
-      (subst (λ (p : Past M). Step n s (record { number = lentNumber s n m l; byte = 0; system = s }) (lentNumber s n m l) p)
+      (subst (λ (p : Past M). Step n s (record { number = borrowedNumber s n m l; byte = 0; system = s }) (borrowedNumber s n m l) p)
       (sym (pick-false _ _ _ (ne-eqb _ _ wrong)))
-      (record { number = refl; agree = as-before σ s es c; sum = refused-clocks (lentNumber s n m l) n _ wrong }))
+      (record { number = refl; agree = as-before σ s es c; sum = refused-clocks (borrowedNumber s n m l) n _ wrong }))
 
-  grant-step : (s : System M) (es : List Event) (n : ℕ) (m : LentMemory σ) (l : LentLatches) → Counts (s .clocks) es (s .world .core .block .counter) → Step n s (grantLent σ ω s n m l) (lentNumber s n m l) (unlessRefused σ (lentNumber s n m l) (grantPassed σ n (pastOf s es)) (pastOf s es) .past)
+  grant-step : (s : System M) (es : List Event) (n : ℕ) (m : BorrowedMemory σ) (l : BorrowedLatches) → Counts (s .clocks) es (s .world .core .block .counter) → Step n s (grantBorrowed σ ω s n m l) (borrowedNumber s n m l) (unlessRefused (borrowedNumber s n m l) (grantPassed σ n (pastOf s es)) (pastOf s es) .past)
   grant-step s es n ownMemory ownLatches c = own-step σ s es n c
   grant-step s es n ownMemory (otherLatches l wrong) c =
       other-step s es n ownMemory (otherLatches l wrong) (λ e. wrong (granted σ _ _ _ n e .latches)) c
@@ -225,7 +226,7 @@ module _ {M C : Type 0} (σ : Store M) (ω : Outside M C) where
 
   -- ---- one entry
 
-  entry-literal : (e : Entry σ C) (s : System M) (es : List Event) → Counts (s .clocks) es (s .world .core .block .counter) → Step (clocksAsked e) s (enter σ ω e s) (pass σ ω e (pastOf s es) .number) (pass σ ω e (pastOf s es) .past)
+  entry-literal : (e : Entry σ C) (s : System M) (es : List Event) → Counts (s .clocks) es (s .world .core .block .counter) → Step (clocksAsked e) s (enter σ ω e s) (noteEntry σ ω e (pastOf s es) .number) (noteEntry σ ω e (pastOf s es) .past)
   unfolding unlessRefused
   entry-literal (portWrite port byte) s es c = write-step σ s es port byte _ refl c
   entry-literal (portRead port) s es c = read-step σ s es port _ refl c
@@ -233,9 +234,9 @@ module _ {M C : Type 0} (σ : Store M) (ω : Outside M C) where
   entry-literal (outsideChange x) s es c =
       record { number = refl; agree = record { world = refl; sum = refl; counts = c }; sum = no-clocks _ _ }
 
-  entry-step : (e : Entry σ C) (s : System M) (p : Past M) → Agree s p → Step (clocksAsked e) s (enter σ ω e s) (pass σ ω e p .number) (pass σ ω e p .past)
+  entry-step : (e : Entry σ C) (s : System M) (p : Past M) → Agree s p → Step (clocksAsked e) s (enter σ ω e s) (noteEntry σ ω e p .number) (noteEntry σ ω e p .past)
   entry-step e s p a =
-      subst (λ (q : Past M). Step (clocksAsked e) s (enter σ ω e s) (pass σ ω e q .number) (pass σ ω e q .past))
+      subst (λ (q : Past M). Step (clocksAsked e) s (enter σ ω e s) (noteEntry σ ω e q .number) (noteEntry σ ω e q .past))
       (λ i. record { world = a .world i; sum = a .sum i; events = p .events }) (entry-literal e s (p .events) (a .counts))
 
   -- ---- a list of entries
@@ -250,7 +251,7 @@ module _ {M C : Type 0} (σ : Store M) (ω : Outside M C) where
   ends [] s p a = record { agree = a; sum = sym (add-zero _); numbers = refl }
   ends (e ∷ es) s p a =
       let k = entry-step e s p a in
-      let r = ends es (enter σ ω e s .system) (pass σ ω e p .past) (k .agree) in
+      let r = ends es (enter σ ω e s .system) (noteEntry σ ω e p .past) (k .agree) in
       record {
         agree = r .agree;
         sum = r .sum ∙ ap (λ (x : ℕ). x + clocksAccepted es (run σ ω es (enter σ ω e s .system) .answers)) (k .sum) ∙ add-assoc _ _ _;
@@ -259,7 +260,7 @@ module _ {M C : Type 0} (σ : Store M) (ω : Outside M C) where
 
 -- ---- splitting a grant
 
-module _ {M : Type 0} (σ : Store M) (keeps : (x : M) (address byte : ℕ) → σ .refusal (σ .store x address byte) ≡ σ .refusal x) where
+module _ {M : Type 0} (σ : Store M) (keeps : StoreKeepsRefusal σ) where
   -- what a grant asks of the buffers, a clock keeps
   record SameBuffers (b d : Buffers M) : Type 0 where
     memory : σ .refusal (d .memory) ≡ σ .refusal (b .memory)
@@ -291,11 +292,11 @@ module _ {M : Type 0} (σ : Store M) (keeps : (x : M) (address byte : ℕ) → �
 
   granted-rest : (s : System M) (k n : ℕ) → InRange (s .world .core) → Granted σ (s .world .core) (total (s .clocks)) (s .world .buffers) (k + n) → Granted σ (clocked σ k s .world .core) (total (clocked σ k s .clocks)) (clocked σ k s .world .buffers) n
   granted-rest s k n r g =
-      let v = valid-sound (s .world .core) (s .clocks) r (g .state) in
+      let v = valid-device (s .world .core) (s .clocks) r (g .state) in
       let t = clocked-total σ k s in
       let b = clocked-same k s in
       record {
-        state = sound-valid (clocked σ k s .world .core) (clocked σ k s .clocks) (record { core = clocked-kept σ k s (v .core); sum = omega (arith, g .room) });
+        state = device-valid (clocked σ k s .world .core) (clocked σ k s .clocks) (record { core = clocked-kept σ k s (v .core); sum = omega (arith, g .room) });
         memory = b .memory ∙ g .memory;
         latches = b .latches ∙ g .latches;
         room = omega (arith, g .room);
@@ -307,7 +308,7 @@ module _ {M : Type 0} (σ : Store M) (keeps : (x : M) (address byte : ℕ) → �
   accepted-in-turn (n ∷ ns) s r g =
       let e = grantable σ _ _ _ n (granted-fewer s n (sumOf ns) g) in
       let a = grant-accepts σ s (clocked σ n s) n e refl in
-      let v = valid-sound (s .world .core) (s .clocks) r (g .state) in (
+      let v = valid-device (s .world .core) (s .clocks) r (g .state) in (
         sym (ap (λ (x : Answer M). x .number) a),
         subst (λ (x : Answer M). AcceptedInTurn σ ns (x .system) (clocked σ (n + sumOf ns) s)) a
             (subst (λ (t : System M). AcceptedInTurn σ ns (clocked σ n s) t) (sym (clocked-add σ n (sumOf ns) s))
@@ -335,7 +336,7 @@ start-agrees m l =
     record { world = refl; sum = refl; counts = record { bus = refl; held = refl; cpu = refl; bytes = refl } }
 
 pub demand3 : Demand3
-demand3 M C σ ω keeps m l es =
+demand3 M C σ ω m l es =
     let h = ends σ ω es (systemAtPowerOn m l) (pastAtPowerOn m l) (start-agrees m l) in
     record {
       bus = h .agree .counts .bus;
@@ -343,12 +344,22 @@ demand3 M C σ ω keeps m l es =
       cpu = h .agree .counts .cpu;
       sum = h .sum ∙ zero-add _;
       bytes = h .agree .counts .bytes;
-      splits = grant-splits σ keeps;
+      splits = grant-splits σ;
       world = h .agree .world;
       numbers = h .numbers;
     }
 
--- of the flat memory, from any bytes and any latches
-pub demand3-flat : (m l : List ℕ) (es : List (Entry flat (List Poke))) → Accounted flat flatOutside m l es
-unfolding firstHit
-demand3-flat m l es = demand3 (List ℕ) (List Poke) flat flatOutside (λ x address byte. ap (λ (k : ℕ). firstHit (test 4 (not (eqb k 65536)) ∷ [])) (length-set x address byte)) m l es
+flat-keeps-refusal : StoreKeepsRefusal flat
+flat-keeps-refusal x address byte = ap (λ (k : ℕ). firstHit (test 4 (not (eqb k 65536)) ∷ [])) (length-set x address byte)
+
+pub demand3-flat : Demand3Flat
+demand3-flat = (λ m l es. demand3 (List ℕ) (List Poke) flat flatOutside m l es, grant-splits flat flat-keeps-refusal)
+
+pub zero-noted : ZeroNoted
+unfolding opened
+zero-noted = refl
+
+pub pokes-keep-length : PokesKeepLength
+unfolding poked
+pokes-keep-length [] m = refl
+pokes-keep-length (p ∷ ps) m = pokes-keep-length ps (set m (p .address) (p .byte)) ∙ length-set m (p .address) (p .byte)

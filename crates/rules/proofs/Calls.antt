@@ -19,6 +19,7 @@ use Rattle.rules.specs.Buffers.{Store, flat, Buffers}
 use Rattle.rules.specs.World.{World, System, clocked}
 use Rattle.rules.specs.Refusals.{wrongPort, accessRefusal, grantRefusal}
 use Rattle.rules.specs.Calls.{Reply, Answer, refused, accepted, writeReply, readReply, beside, write, read, grantNumber, grant}
+use Rattle.rules.specs.Keeping.{ValidDevice, StaysValid, HandsBack}
 use Rattle.rules.specs.Opened.{opened}
 use Rattle.rules.specs.declared.Clocks.{Clocks}
 use Rattle.rules.specs.declared.Core.{Core}
@@ -26,6 +27,7 @@ use Rattle.rules.proofs.Choice.{clash, pick-cases, pick-true, pick-fals
 use Rattle.rules.proofs.Validity.{core-parts, parts-core}
 use Rattle.rules.proofs.Writing.{write-kept}
 use Rattle.rules.proofs.Reading.{read-kept}
+use Rattle.rules.proofs.Clocking.{clock-kept}
 use Rattle.rules.proofs.Counting.{clocked-kept, clocked-total}
 
 -- ---- the first test that hits
@@ -94,24 +96,19 @@ module _ {M : Type 0} (σ : Store M) where
 
 -- ---- a valid device stays valid
 
--- a kept core, and a sum of clock counts that fits
-pub record Sound (c : Core) (k : Clocks) : Type 0 where
-  pub core : Kept c
-  pub sum : total k ≤ most64
-
 -- the test of validity is true of it, and false of no other core within its types
-pub sound-valid : (c : Core) (k : Clocks) → Sound c k → valid c (total k) ≡ true
+pub device-valid : (c : Core) (k : Clocks) → ValidDevice c k → valid c (total k) ≡ true
 unfolding valid
-sound-valid c k s = true-all _ (parts-core c (s .core .valid), (le-leb _ _ (s .sum), tt))
+device-valid c k s = true-all _ (parts-core c (s .core .valid), (le-leb _ _ (s .sum), tt))
 
-pub valid-sound : (c : Core) (k : Clocks) → InRange c → valid c (total k) ≡ true → Sound c k
+pub valid-device : (c : Core) (k : Clocks) → InRange c → valid c (total k) ≡ true → ValidDevice c k
 unfolding valid
-valid-sound c k r e =
+valid-device c k r e =
     let h = all-true _ e in record { core = record { valid = core-parts c (h .0); range = r }; sum = leb-true _ _ (h .1 .0) }
 
-pub power-on-sound : Sound powerOn noClocks
+power-on-valid : ValidDevice powerOn noClocks
 unfolding opened
-power-on-sound =
+power-on-valid =
     record {
       core =
           record {
@@ -121,46 +118,46 @@ power-on-sound =
       sum = omega arith;
     }
 
-pub write-sound : (c : Core) (k : Clocks) (port byte : ℕ) → byte < 256 → Sound c k → Sound (writeReply c k port byte .core) (writeReply c k port byte .clocks)
+write-valid : (c : Core) (k : Clocks) (port byte : ℕ) → byte < 256 → ValidDevice c k → ValidDevice (writeReply c k port byte .core) (writeReply c k port byte .clocks)
 unfolding writeReply
-write-sound c k port byte h s =
-    pick-cases (λ (r : Reply). Sound (r .core) (r .clocks)) _ _ _
+write-valid c k port byte h s =
+    pick-cases (λ (r : Reply). ValidDevice (r .core) (r .clocks)) _ _ _
     (λ e. record { core = write-kept port byte c h (access c (total k) port (eqb-true _ _ e) .free) (s .core); sum = s .sum })
     (λ e. s)
 
-pub read-sound : (c : Core) (k : Clocks) (port : ℕ) → Sound c k → Sound (readReply c k port .core) (readReply c k port .clocks)
+read-valid : (c : Core) (k : Clocks) (port : ℕ) → ValidDevice c k → ValidDevice (readReply c k port .core) (readReply c k port .clocks)
 unfolding readReply
-read-sound c k port s =
-    pick-cases (λ (r : Reply). Sound (r .core) (r .clocks)) _ _ _ (λ e. record { core = read-kept c (s .core); sum = s .sum }) (λ e. s)
+read-valid c k port s =
+    pick-cases (λ (r : Reply). ValidDevice (r .core) (r .clocks)) _ _ _ (λ e. record { core = read-kept c (s .core); sum = s .sum }) (λ e. s)
 
-abbrev pub SoundSystem : {M : Type 0} → System M → Type 0
-SoundSystem s = Sound (s .world .core) (s .clocks)
+abbrev ValidSystem : {M : Type 0} → System M → Type 0
+ValidSystem s = ValidDevice (s .world .core) (s .clocks)
 
 -- ---- a refused call hands everything back
 
-pub write-refused : (c : Core) (k : Clocks) (port byte : ℕ) → (writeReply c k port byte .number ≡ 0 → ⊥) → writeReply c k port byte ≡ refused (accessRefusal c (total k) port) c k
+write-refused : (c : Core) (k : Clocks) (port byte : ℕ) → (writeReply c k port byte .number ≡ 0 → ⊥) → writeReply c k port byte ≡ refused (accessRefusal c (total k) port) c k
 unfolding writeReply
 write-refused c k port byte =
     pick-cases (λ (r : Reply). (r .number ≡ 0 → ⊥) → r ≡ refused (accessRefusal c (total k) port) c k) _ _ _
     (λ e n. absurd (n refl)) (λ e n. refl)
 
-pub read-refused : (c : Core) (k : Clocks) (port : ℕ) → (readReply c k port .number ≡ 0 → ⊥) → readReply c k port ≡ refused (accessRefusal c (total k) port) c k
+read-refused : (c : Core) (k : Clocks) (port : ℕ) → (readReply c k port .number ≡ 0 → ⊥) → readReply c k port ≡ refused (accessRefusal c (total k) port) c k
 unfolding readReply
 read-refused c k port =
     pick-cases (λ (r : Reply). (r .number ≡ 0 → ⊥) → r ≡ refused (accessRefusal c (total k) port) c k) _ _ _
     (λ e n. absurd (n refl)) (λ e n. refl)
 
 module _ {M : Type 0} (σ : Store M) where
-  pub grant-sound : (s : System M) (n : ℕ) → SoundSystem s → SoundSystem (grant σ s n .system)
+  grant-valid : (s : System M) (n : ℕ) → ValidSystem s → ValidSystem (grant σ s n .system)
   unfolding grant
-  grant-sound s n h =
-      pick-cases (λ (a : Answer M). SoundSystem (a .system)) _ _ _
+  grant-valid s n h =
+      pick-cases (λ (a : Answer M). ValidSystem (a .system)) _ _ _
       (λ e.
       let g = granted σ _ _ _ n (eqb-true _ _ e) in
       record { core = clocked-kept σ n s (h .core); sum = (let t = clocked-total σ n s in omega (arith, g .room)) })
       (λ e. h)
 
-  pub grant-refused : (s : System M) (n : ℕ) → (grant σ s n .number ≡ 0 → ⊥) → grant σ s n ≡ record { number = grantNumber σ s n; byte = 0; system = s }
+  grant-refused : (s : System M) (n : ℕ) → (grant σ s n .number ≡ 0 → ⊥) → grant σ s n ≡ record { number = grantNumber σ s n; byte = 0; system = s }
   unfolding grant
   grant-refused s n =
       pick-cases
@@ -188,3 +185,13 @@ flat-memory m e = let h = missed _ _ (tells 3 _) e in eqb-true _ _ (not-false _ 
 pub valid-fits : (c : Core) (sum : ℕ) → valid c sum ≡ true → sum ≤ most64
 unfolding valid
 valid-fits c sum e = leb-true _ _ (all-true _ e .1 .0)
+
+-- ---- what every call keeps
+
+module _ {M : Type 0} (σ : Store M) where
+  pub stays-valid : StaysValid σ
+  stays-valid =
+      record { power-on = power-on-valid; write = write-valid; read = read-valid; clock = clock-kept; granted = grant-valid σ }
+
+  pub hands-back : HandsBack σ
+  hands-back = record { write = write-refused; read = read-refused; granted = grant-refused σ }

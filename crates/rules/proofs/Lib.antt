@@ -1,3 +1,5 @@
+pub mod WorkedExamples
+pub mod Slips
 pub mod Choice
 pub mod Bytes
 pub mod Validity
@@ -14,5 +16,3 @@ pub mod Spans
 pub mod Calls
 pub mod Counter
 pub mod Accounts
-pub mod WorkedExamples
-pub mod Slips

@@ -7,7 +7,7 @@ use mathlib.Core.Bool.{true, false}
 use lib.Dec.{ltb}
 use borrow.Author.Tests.{ltb-true}
 use Rattle.rules.specs.Bytes.{bit}
-use Rattle.rules.specs.Readback.{after, seek, chosen, Byte, readByte}
+use Rattle.rules.specs.Readback.{after, seek, Byte, readByte}
 use Rattle.rules.specs.Facts.{Kept}
 use Rattle.rules.specs.declared.Readback.{Readback}
 use Rattle.rules.specs.declared.Core.{Core}
@@ -17,11 +17,6 @@ use Rattle.rules.proofs.Steady.{SteadyCore, steady-readback, kept-from,
 after-small : (k : ℕ) → after k ≤ 6
 unfolding after
 after-small k = pick-cases (λ n. n ≤ 6) _ _ _ (λ (e : ltb k 6 ≡ true). omega (arith, ltb-true k 6 e)) (λ e. omega arith)
-
-seek-small : (n mask k : ℕ) → k ≤ 6 → seek n mask k ≤ 6
-unfolding seek
-seek-small zero mask k h = h
-seek-small (suc n) mask k h = pick-both (λ m. m ≤ 6) _ _ _ h (seek-small n mask (after k) (after-small k))
 
 -- the search, one place after the other
 pub seek-end : (n mask k : ℕ) → n ≡ 0 → seek n mask k ≡ k
@@ -39,10 +34,6 @@ unfolding seek
 seek-on zero mask k h e = absurd (h refl)
 seek-on (suc n) mask k h e =
     pick-false _ _ _ e ∙ ap (λ (m : ℕ). seek m mask (after k)) (let z : n ≡ suc n - 1 = omega arith in z)
-
--- the chosen register is one of seven
-pub chosen-small : (mask position : ℕ) → position ≤ 6 → chosen mask position ≤ 6
-chosen-small mask position h = seek-small 7 mask position h
 
 -- an accepted read keeps a valid core valid
 pub read-kept : (c : Core) → Kept c → Kept (readByte c .core)

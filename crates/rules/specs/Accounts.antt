@@ -3,18 +3,18 @@
 -- Assumes nothing.
 use Prim.Native.Nat.{ℕ, _+_}
 use mathlib.Core.Path.{_≡_}
-use mathlib.Core.Bool.{Bool, true, false}
 use mathlib.Core.List.{List, [], _∷_}
 use mathlib.Core.Option.{Option, none, some}
 use lib.Dec.{eqb}
+use lib.ListN.{length}
 use Rattle.rules.specs.Choice.{pick}
 use Rattle.rules.specs.Validity.{total}
 use Rattle.rules.specs.Facts.{InRange}
 use Rattle.rules.specs.Clock.{Kind, busClock, heldClock, cpuClock}
-use Rattle.rules.specs.Buffers.{Store}
+use Rattle.rules.specs.Buffers.{Store, flat}
 use Rattle.rules.specs.World.{World, System, Move, Note}
 use Rattle.rules.specs.Calls.{Answer, grant}
-use Rattle.rules.specs.Entries.{Outside, Entry, portWrite, portRead, clockGrant, outsideChange, Answered, Run, run, systemAtPowerOn}
+use Rattle.rules.specs.Entries.{Outside, Poke, poked, flatOutside, Entry, portWrite, portRead, clockGrant, outsideChange, Answered, Run, run, systemAtPowerOn}
 use Rattle.rules.specs.History.{Event, clockNoted, counterZeroed, Past, History, history, pastAtPowerOn}
 
 -- ---- counting the events of a history
@@ -38,14 +38,14 @@ clocksNoted k (clockNoted n ∷ es) = ofKind k (n .kind) + clocksNoted k es
 clocksNoted k (counterZeroed held ∷ es) = clocksNoted k es
 
 -- 1 for a byte that moved
-abbrev pub moved : Option Move → ℕ
-moved none = 0
-moved (some m) = 1
+abbrev pub bytesOf : Option Move → ℕ
+bytesOf none = 0
+bytesOf (some m) = 1
 
 -- the bytes moved, as noted
 unfoldable pub bytesNoted : List Event → ℕ
 bytesNoted [] = 0
-bytesNoted (clockNoted n ∷ es) = moved (n .move) + bytesNoted es
+bytesNoted (clockNoted n ∷ es) = bytesOf (n .move) + bytesNoted es
 bytesNoted (counterZeroed held ∷ es) = bytesNoted es
 
 -- what the counter held, if it was put to zero
@@ -90,12 +90,16 @@ module _ {M : Type 0} (σ : Store M) where
   AcceptedInTurn [] s t = s ≡ t
   AcceptedInTurn (n ∷ ns) s t = (grant σ s n .number ≡ 0) × AcceptedInTurn ns (grant σ s n .system) t
 
-  -- every accepted grant of a device within its types may be split in any way: grants of 0 clocks among them, or no grant
-  -- at all for 0 clocks
+  -- every accepted grant of any device whose fields lie within their types may be split in any way: grants of 0 clocks
+  -- among them, or no grant at all for 0 clocks
   abbrev pub Splits : Type 0
   Splits =
       (s : System M) (n : ℕ) → InRange (s .world .core) → grant σ s n .number ≡ 0
       → (ns : List ℕ) → sumOf ns ≡ n → AcceptedInTurn ns s (grant σ s n .system)
+
+  -- a grant refuses the memory, or does not, whatever bytes are stored in it
+  abbrev pub StoreKeepsRefusal : Type 0
+  StoreKeepsRefusal = (x : M) (address byte : ℕ) → σ .refusal (σ .store x address byte) ≡ σ .refusal x
 
 -- ---- the claim
 
@@ -109,15 +113,28 @@ pub record Accounted {M C : Type 0} (σ : Store M) (ω : Outside M C) (m : M) (l
   pub sum : total (run σ ω es (systemAtPowerOn m l) .system .clocks) ≡ clocksAccepted es (run σ ω es (systemAtPowerOn m l) .answers)
   -- the bytes moved are what the counter held at each zeroing, and what it holds now
   pub bytes : bytesNoted (history σ ω es (pastAtPowerOn m l) .past .events) ≡ zeroedNoted (history σ ω es (pastAtPowerOn m l) .past .events) + run σ ω es (systemAtPowerOn m l) .system .world .core .block .counter
-  -- every accepted grant may be split, of a device reached or not
-  pub splits : Splits σ
+  -- every accepted grant may be split, of any device whose fields lie within their types, reached or not
+  pub splits : StoreKeepsRefusal σ → Splits σ
   -- the device but for the counts, memory and latches are the history's, and both refuse alike
   pub world : run σ ω es (systemAtPowerOn m l) .system .world ≡ history σ ω es (pastAtPowerOn m l) .past .world
   pub numbers : numbersOf (run σ ω es (systemAtPowerOn m l) .answers) ≡ history σ ω es (pastAtPowerOn m l) .numbers
 
--- of every list of every memory that stays what it was to a grant when a byte is stored in it
+-- of every kind of memory and every list
 abbrev pub Demand3 : Type 1
 Demand3 =
-    (M C : Type 0) (σ : Store M) (ω : Outside M C)
-    → ((x : M) (address byte : ℕ) → σ .refusal (σ .store x address byte) ≡ σ .refusal x)
-    → (m : M) (l : List ℕ) (es : List (Entry σ C)) → Accounted σ ω m l es
+    (M C : Type 0) (σ : Store M) (ω : Outside M C) (m : M) (l : List ℕ) (es : List (Entry σ C)) → Accounted σ ω m l es
+
+-- of every list of the flat memory, where a stored byte never changes the length
+abbrev pub Demand3Flat : Type 0
+Demand3Flat =
+    ((m l : List ℕ) (es : List (Entry flat (List Poke))) → Accounted flat flatOutside m l es) × Splits flat
+
+-- Load and Continue are noted at a counter of 0 too
+abbrev pub ZeroNoted : Type 0
+ZeroNoted =
+    history flat flatOutside (portWrite 0x6B 0xCF ∷ portWrite 0x6B 0xD3 ∷ []) (pastAtPowerOn [] []) .past .events
+    ≡ counterZeroed 0 ∷ counterZeroed 0 ∷ []
+
+-- an outside change keeps the length of the flat memory
+abbrev pub PokesKeepLength : Type 0
+PokesKeepLength = (ps : List Poke) (m : List ℕ) → length (poked ps m) ≡ length m

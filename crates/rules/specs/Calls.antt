@@ -46,7 +46,7 @@ readReply c k port =
     (accepted (readByte c .byte) (readByte c .core) k)
     (refused (accessRefusal c (total k) port) c k)
 
-module _ {M : Type 0} (σ : Store M) where
+module _ {M : Type 0} where
   -- a reply beside buffers that the call does not touch
   abbrev pub beside : Buffers M → Reply → Answer M
   beside b r =
@@ -62,6 +62,7 @@ module _ {M : Type 0} (σ : Store M) where
   abbrev pub read : System M → ℕ → Answer M
   read s port = beside (s .world .buffers) (readReply (s .world .core) (s .clocks) port)
 
+module _ {M : Type 0} (σ : Store M) where
   -- why a grant of n clocks is refused, 0 for accepted
   abbrev pub grantNumber : System M → ℕ → ℕ
   grantNumber s n = grantRefusal σ (s .world .core) (total (s .clocks)) (s .world .buffers) n

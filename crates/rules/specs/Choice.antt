@@ -1,4 +1,4 @@
--- Choosing by a test: the one way in which a definition of this repository branches.
+-- Choosing by a test: the one way in which a definition of this repository branches on one.
 -- Assumes nothing.
 use Prim.Native.Nat.{ℕ}
 use mathlib.Core.Bool.{Bool, true, false}

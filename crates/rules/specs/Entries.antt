@@ -28,21 +28,21 @@ flatOutside = record { change = poked }
 
 module _ {M : Type 0} (σ : Store M) where
   -- the memory that a grant in a list borrows: the list's own, or in its place any that a grant refuses
-  pub data LentMemory : Type 0 where
-    ownMemory : LentMemory
-    otherMemory : (m : M) → (σ .refusal m ≡ 0 → ⊥) → LentMemory
+  pub data BorrowedMemory : Type 0 where
+    ownMemory : BorrowedMemory
+    otherMemory : (m : M) → (σ .refusal m ≡ 0 → ⊥) → BorrowedMemory
 
 -- the latches that a grant in a list borrows: the list's own, or in their place any of a wrong length
-pub data LentLatches : Type 0 where
-  ownLatches : LentLatches
-  otherLatches : (l : List ℕ) → (length l ≡ 65536 → ⊥) → LentLatches
+pub data BorrowedLatches : Type 0 where
+  ownLatches : BorrowedLatches
+  otherLatches : (l : List ℕ) → (length l ≡ 65536 → ⊥) → BorrowedLatches
 
 -- an entry of a list: a port write (port, byte), a port read (port), a grant (clocks and the two buffers), or an outside
 -- change of memory
 pub data Entry {M : Type 0} (σ : Store M) (C : Type 0) : Type 0 where
   portWrite : ℕ → ℕ → Entry σ C
   portRead : ℕ → Entry σ C
-  clockGrant : ℕ → LentMemory σ → LentLatches → Entry σ C
+  clockGrant : ℕ → BorrowedMemory σ → BorrowedLatches → Entry σ C
   outsideChange : C → Entry σ C
 
 -- what an entry is answered with; an outside change, with 0
@@ -56,12 +56,12 @@ pub record Run (M : Type 0) : Type 0 where
   pub system : System M
 
 -- the latches that a grant is lent
-abbrev pub lentLatches : LentLatches → List ℕ → List ℕ
-lentLatches ownLatches own = own
-lentLatches (otherLatches l wrong) own = l
+abbrev pub borrowedLatches : BorrowedLatches → List ℕ → List ℕ
+borrowedLatches ownLatches own = own
+borrowedLatches (otherLatches l wrong) own = l
 
 -- the list's own latches after a grant: what the grant left of them, or as they were where others were lent
-abbrev pub ownLatchesAfter : LentLatches → List ℕ → List ℕ → List ℕ
+abbrev pub ownLatchesAfter : BorrowedLatches → List ℕ → List ℕ → List ℕ
 ownLatchesAfter ownLatches own left = left
 ownLatchesAfter (otherLatches l wrong) own left = own
 
@@ -71,46 +71,46 @@ besideBuffers b s = record { world = record { core = s .world .core; buffers = b
 
 module _ {M : Type 0} {σ : Store M} where
   -- the memory that a grant is lent
-  abbrev pub lentMemory : LentMemory σ → M → M
-  lentMemory ownMemory own = own
-  lentMemory (otherMemory m wrong) own = m
+  abbrev pub borrowedMemory : BorrowedMemory σ → M → M
+  borrowedMemory ownMemory own = own
+  borrowedMemory (otherMemory m wrong) own = m
 
   -- the list's own memory after a grant
-  abbrev pub ownMemoryAfter : LentMemory σ → M → M → M
+  abbrev pub ownMemoryAfter : BorrowedMemory σ → M → M → M
   ownMemoryAfter ownMemory own left = left
   ownMemoryAfter (otherMemory m wrong) own left = own
 
 -- the buffers that a grant is lent
-abbrev pub lentBuffers : {M : Type 0} {σ : Store M} → LentMemory σ → LentLatches → Buffers M → Buffers M
-lentBuffers m l b = record { memory = lentMemory m (b .memory); latches = lentLatches l (b .latches) }
+abbrev pub borrowedBuffers : {M : Type 0} {σ : Store M} → BorrowedMemory σ → BorrowedLatches → Buffers M → Buffers M
+borrowedBuffers m l b = record { memory = borrowedMemory m (b .memory); latches = borrowedLatches l (b .latches) }
 
 -- the list's own buffers after a grant that left the buffers lent so
-abbrev pub ownBuffersAfter : {M : Type 0} {σ : Store M} → LentMemory σ → LentLatches → Buffers M → Buffers M → Buffers M
+abbrev pub ownBuffersAfter : {M : Type 0} {σ : Store M} → BorrowedMemory σ → BorrowedLatches → Buffers M → Buffers M → Buffers M
 ownBuffersAfter m l b left =
     record { memory = ownMemoryAfter m (b .memory) (left .memory); latches = ownLatchesAfter l (b .latches) (left .latches) }
 
 module _ {M C : Type 0} (σ : Store M) (ω : Outside M C) where
   -- a grant in a list: of the buffers lent, the list keeps its own
-  abbrev pub grantLent : System M → ℕ → LentMemory σ → LentLatches → Answer M
-  grantLent s n m l =
-      let a : Answer M = grant σ (besideBuffers (lentBuffers m l (s .world .buffers)) s) n in
+  abbrev pub grantBorrowed : System M → ℕ → BorrowedMemory σ → BorrowedLatches → Answer M
+  grantBorrowed s n m l =
+      let a : Answer M = grant σ (besideBuffers (borrowedBuffers m l (s .world .buffers)) s) n in
       record {
         number = a .number;
         byte = a .byte;
         system = besideBuffers (ownBuffersAfter m l (s .world .buffers) (a .system .world .buffers)) (a .system);
       }
 
-  -- the memory changed from outside; the latches stay
-  abbrev pub changed : C → System M → System M
-  changed x s =
+  -- the memory changedOutside from outside; the latches stay
+  abbrev pub changedOutside : C → System M → System M
+  changedOutside x s =
       besideBuffers (record { memory = ω .change x (s .world .buffers .memory); latches = s .world .buffers .latches }) s
 
   -- one entry, by the calls' own definitions
   abbrev pub enter : Entry σ C → System M → Answer M
-  enter (portWrite port byte) s = write σ s port byte
-  enter (portRead port) s = read σ s port
-  enter (clockGrant n m l) s = grantLent s n m l
-  enter (outsideChange x) s = record { number = 0; byte = 0; system = changed x s }
+  enter (portWrite port byte) s = write s port byte
+  enter (portRead port) s = read s port
+  enter (clockGrant n m l) s = grantBorrowed s n m l
+  enter (outsideChange x) s = record { number = 0; byte = 0; system = changedOutside x s }
 
   -- a list of entries
   unfoldable pub run : List (Entry σ C) → System M → Run M

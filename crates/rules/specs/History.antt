@@ -15,7 +15,7 @@ use Rattle.rules.specs.Readback.{readByte}
 use Rattle.rules.specs.Buffers.{Store, Buffers}
 use Rattle.rules.specs.World.{World, Note, step, note}
 use Rattle.rules.specs.Refusals.{accessRefusal, grantRefusal}
-use Rattle.rules.specs.Entries.{Outside, Entry, portWrite, portRead, clockGrant, outsideChange, lentBuffers}
+use Rattle.rules.specs.Entries.{Outside, Entry, portWrite, portRead, clockGrant, outsideChange, borrowedBuffers}
 use Rattle.rules.specs.declared.Core.{Core}
 
 -- what the history notes: a clock, or what the counter held when a Load or a Continue put it to zero
@@ -34,7 +34,7 @@ unfoldable pub zeroing : ℕ → Core → Bool
 zeroing byte c = pick (isPending (c .pending)) false (any (eqb byte 0xCF ∷ eqb byte 0xD3 ∷ []))
 
 -- the refusal number of an entry, and the state after it
-pub record Passed (M : Type 0) : Type 0 where
+pub record EntryNoted (M : Type 0) : Type 0 where
   pub number : ℕ
   pub past : Past M
 
@@ -43,7 +43,7 @@ pub record History (M : Type 0) : Type 0 where
   pub numbers : List ℕ
   pub past : Past M
 
-module _ {M : Type 0} (σ : Store M) where
+module _ {M : Type 0} where
   abbrev pub withCore : Core → Past M → Past M
   withCore c p = record { world = record { core = c; buffers = p .world .buffers }; sum = p .sum; events = p .events }
 
@@ -58,6 +58,11 @@ module _ {M : Type 0} (σ : Store M) where
       })
       (withCore (written port byte (p .world .core)) p)
 
+  -- a refused call changes and notes nothing
+  unfoldable pub unlessRefused : ℕ → Past M → Past M → EntryNoted M
+  unlessRefused number accepted p = record { number = number; past = pick (eqb number 0) accepted p }
+
+module _ {M : Type 0} (σ : Store M) where
   -- one clock, noted
   abbrev pub clockPassed : Past M → Past M
   clockPassed p =
@@ -71,10 +76,6 @@ module _ {M : Type 0} (σ : Store M) where
   -- an accepted grant: its clocks are added to the sum, and taken singly
   abbrev pub grantPassed : ℕ → Past M → Past M
   grantPassed n p = clocksPassed n (record { world = p .world; sum = p .sum + n; events = p .events })
-
-  -- a refused call changes and notes nothing
-  unfoldable pub unlessRefused : ℕ → Past M → Past M → Passed M
-  unlessRefused number accepted p = record { number = number; past = pick (eqb number 0) accepted p }
 
 module _ {M C : Type 0} (σ : Store M) (ω : Outside M C) where
   -- an outside change of memory replaces bytes and notes nothing
@@ -91,23 +92,23 @@ module _ {M C : Type 0} (σ : Store M) (ω : Outside M C) where
       }
 
   -- one entry; refusal 6 is judged by the sum
-  abbrev pub pass : Entry σ C → Past M → Passed M
-  pass (portWrite port byte) p =
-      unlessRefused σ (accessRefusal (p .world .core) (p .sum) port) (writePassed σ port byte p) p
-  pass (portRead port) p =
-      unlessRefused σ (accessRefusal (p .world .core) (p .sum) port) (withCore σ (readByte (p .world .core) .core) p) p
-  pass (clockGrant n m l) p =
-      unlessRefused σ
-      (grantRefusal σ (p .world .core) (p .sum) (lentBuffers m l (p .world .buffers)) n) (grantPassed σ n p) p
-  pass (outsideChange x) p = record { number = 0; past = changePassed x p }
+  abbrev pub noteEntry : Entry σ C → Past M → EntryNoted M
+  noteEntry (portWrite port byte) p =
+      unlessRefused (accessRefusal (p .world .core) (p .sum) port) (writePassed port byte p) p
+  noteEntry (portRead port) p =
+      unlessRefused (accessRefusal (p .world .core) (p .sum) port) (withCore (readByte (p .world .core) .core) p) p
+  noteEntry (clockGrant n m l) p =
+      unlessRefused
+      (grantRefusal σ (p .world .core) (p .sum) (borrowedBuffers m l (p .world .buffers)) n) (grantPassed σ n p) p
+  noteEntry (outsideChange x) p = record { number = 0; past = changePassed x p }
 
   -- a list of entries
   unfoldable pub history : List (Entry σ C) → Past M → History M
   history [] p = record { numbers = []; past = p }
   history (e ∷ es) p =
       record {
-        numbers = pass e p .number ∷ history es (pass e p .past) .numbers;
-        past = history es (pass e p .past) .past;
+        numbers = noteEntry e p .number ∷ history es (noteEntry e p .past) .numbers;
+        past = history es (noteEntry e p .past) .past;
       }
 
 -- the history begins at power-on with nothing noted

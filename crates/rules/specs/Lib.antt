@@ -1,4 +1,4 @@
--- The rules of the model, in the order of document 01.
+-- The rules of the model, each file after those that it uses.
 pub mod Choice
 pub mod Bytes
 pub mod Parts
@@ -18,6 +18,7 @@ pub mod World
 pub mod Spans
 pub mod Refusals
 pub mod Calls
+pub mod Keeping
 pub mod Entries
 pub mod History
 pub mod Accounts

@@ -17,12 +17,6 @@ withAddress x p = record { address = x; pointer = p .pointer; io = p .io; step =
 abbrev pub withPointer : ℕ → Port → Port
 withPointer x p = record { address = p .address; pointer = x; io = p .io; step = p .step; cycle = p .cycle }
 
-abbrev pub withIo : Bool → Port → Port
-withIo x p = record { address = p .address; pointer = p .pointer; io = x; step = p .step; cycle = p .cycle }
-
-abbrev pub withStep : ℕ → Port → Port
-withStep x p = record { address = p .address; pointer = p .pointer; io = p .io; step = x; cycle = p .cycle }
-
 abbrev pub withCycle : ℕ → Port → Port
 withCycle x p = record { address = p .address; pointer = p .pointer; io = p .io; step = p .step; cycle = x }
 

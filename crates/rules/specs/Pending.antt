@@ -44,8 +44,12 @@ readMask = 10
 abbrev pub nothing : Pending
 nothing = record { first = 0; second = 0; third = 0; fourth = 0 }
 
+-- the code of the next one, 0 for none
+abbrev pub next : Pending → ℕ
+next p = p .first
+
 abbrev pub isPending : Pending → Bool
-isPending p = not (eqb (p .first) 0)
+isPending p = not (eqb (next p) 0)
 
 -- those after the next one
 abbrev pub rest : Pending → Pending

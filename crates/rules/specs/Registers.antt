@@ -8,7 +8,7 @@ use Rattle.rules.specs.Choice.{pick, every}
 use Rattle.rules.specs.Bytes.{bit, withLow, withHigh}
 use Rattle.rules.specs.Parts.{withLength, withZilog, withForward, withPrescaler, withBurst, withRestart, withA, withB, withBlock, withControl, withReadback, withPending}
 use Rattle.rules.specs.Ports.{configured, timed, addressedLow, addressedHigh}
-use Rattle.rules.specs.Pending.{aLow, aHigh, lengthLow, lengthHigh, aTiming, bTiming, prescaler, bLow, bHigh, isPending, rest, ask, wr0Asks, wr1Asks, wr2Asks, wr4Asks}
+use Rattle.rules.specs.Pending.{aLow, aHigh, lengthLow, lengthHigh, aTiming, bTiming, prescaler, bLow, bHigh, isPending, next, rest, ask, wr0Asks, wr1Asks, wr2Asks, wr4Asks}
 use Rattle.rules.specs.Commands.{enable, disable, command}
 use Rattle.rules.specs.declared.Core.{Core}
 
@@ -93,7 +93,7 @@ parameter code byte c =
 
 -- the next pending parameter is used up and takes effect
 abbrev pub takeParameter : ℕ → Core → Core
-takeParameter byte c = parameter (c .pending .first) byte (withPending (rest (c .pending)) c)
+takeParameter byte c = parameter (next (c .pending)) byte (withPending (rest (c .pending)) c)
 
 -- the port's low byte sets the compatibility mode: 0B Zilog, 6B zxn
 abbrev pub inMode : ℕ → Core → Core

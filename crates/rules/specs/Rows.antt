@@ -35,7 +35,7 @@ pub data Action : Type 0 where
   -- a grant of this many clocks is accepted
   clocks : ℕ → Action
   -- a grant that lends a memory and latches of these lengths, and asks for this many clocks, is answered with this number
-  lend : ℕ → ℕ → ℕ → ℕ → Action
+  borrow : ℕ → ℕ → ℕ → ℕ → Action
   -- the clock counts are these: bus, held, processor
   counts : ℕ → ℕ → ℕ → Action
   -- the bytes of memory, or the latches, from this address on begin with these
@@ -101,11 +101,11 @@ answered number byte r a = seen (every (r .right ∷ eqb (a .number) number ∷ 
 
 unfoldable pub sendAll : ℕ → List ℕ → Seen → Seen
 sendAll port [] r = r
-sendAll port (x ∷ xs) r = sendAll port xs (answered 0 0 r (write flat (r .system) port x))
+sendAll port (x ∷ xs) r = sendAll port xs (answered 0 0 r (write (r .system) port x))
 
 unfoldable pub expectAll : ℕ → List ℕ → Seen → Seen
 expectAll port [] r = r
-expectAll port (x ∷ xs) r = expectAll port xs (answered 0 x r (read flat (r .system) port))
+expectAll port (x ∷ xs) r = expectAll port xs (answered 0 x r (read (r .system) port))
 
 -- this many bytes have moved and the block has ended
 abbrev pub supposed : ℕ → Core → Core
@@ -129,11 +129,11 @@ perform (fill at bytes) s =
 perform (latch at bytes) s =
     seen true (withBuffers (s .world .buffers .memory) (placed at bytes (s .world .buffers .latches)) s)
 perform (send port bytes) s = sendAll port bytes (seen true s)
-perform (sendRefused port byte number) s = answered number 0 (seen true s) (write flat s port byte)
+perform (sendRefused port byte number) s = answered number 0 (seen true s) (write s port byte)
 perform (expect port bytes) s = expectAll port bytes (seen true s)
-perform (expectRefused port number) s = answered number 0 (seen true s) (read flat s port)
+perform (expectRefused port number) s = answered number 0 (seen true s) (read s port)
 perform (clocks n) s = answered 0 0 (seen true s) (grant flat s n)
-perform (lend m l n number) s =
+perform (borrow m l n number) s =
     let a : Answer (List ℕ) = grant flat (withBuffers (replicate m 0) (replicate l 0) s) n in
     seen (every (eqb (a .number) number ∷ eqb (a .byte) 0 ∷ []))
     (record { world = record { core = a .system .world .core; buffers = s .world .buffers }; clocks = a .system .clocks })

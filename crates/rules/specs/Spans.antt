@@ -34,8 +34,8 @@ countedBy kind n k =
 unfoldable pub buffersBetween : {M : Type 0} → Store M → Bool → Place → Place → Buffers M → Buffers M
 buffersBetween σ moves from to b = pick moves (transfer σ from to b) b
 
--- from c on, n clocks of one kind, within a budget and one at least if there is a budget; none but the last moves a byte,
--- and the last, where it does, from one place to the other; next is the core after them
+-- from c on, n clocks of one kind, within a budget and one at least if there is a budget; none but the last moves a byte;
+-- from and to are the source and the destination of the last, whether or not it does; next is the core after them
 pub record IsSpan (c : Core) (budget n kind : ℕ) (moves : Bool) (from to : Place) (next : Core) : Type 0 where
   pub within : n ≤ budget
   pub some : 0 < budget → 0 < n

@@ -9,7 +9,7 @@ use Rattle.rules.specs.Parts.{withCycle, withCounter, withMask, withPosi
 use Rattle.rules.specs.declared.Core.{Core}
 use Rattle.rules.specs.Clock.{slotLength}
 use Rattle.rules.specs.Bytes.{lowByte, highByte}
-use Rattle.rules.specs.Rows.{Row, row, fill, latch, send, sendRefused, expect, expectRefused, clocks, lend, counts, memory, latches, pointers, counter, status, enabled, count, suppose, supposeCounts, clocksRefused, figure, changed, nextMove, start, failures}
+use Rattle.rules.specs.Rows.{Row, row, fill, latch, send, sendRefused, expect, expectRefused, clocks, borrow, counts, memory, latches, pointers, counter, status, enabled, count, suppose, supposeCounts, clocksRefused, figure, changed, nextMove, start, failures}
 
 -- the bytes of P1: port A at 1000, four bytes, to port B at 2000, cycles of 2 clocks, continuous
 abbrev pub sheet : List ℕ
@@ -529,26 +529,26 @@ table =
     ∷ [])
     -- refused grants: 4 comes before 5 and 5 before 6; the sum of the counts may reach its limit and not pass it
     ∷ row "refused grants"
-    (lend 65535 65536 1 4
-    ∷ lend 65537 65536 0 4
-    ∷ lend 0 0 1 4
-    ∷ lend 65536 65535 1 5
-    ∷ lend 65536 65537 0 5
+    (borrow 65535 65536 1 4
+    ∷ borrow 65537 65536 0 4
+    ∷ borrow 0 0 1 4
+    ∷ borrow 65536 65535 1 5
+    ∷ borrow 65536 65537 0 5
     ∷ supposeCounts 18446744073709551600 10 5
-    ∷ lend 65536 65536 0 0
-    ∷ lend 65536 65536 1 6
-    ∷ lend 65536 0 1 5
+    ∷ borrow 65536 65536 0 0
+    ∷ borrow 65536 65536 1 6
+    ∷ borrow 65536 0 1 5
     ∷ clocks 0
     ∷ counts 18446744073709551600 10 5
     ∷ send 0x6B sheet
     ∷ clocksRefused 16 6
-    ∷ lend 65535 65536 16 4
-    ∷ lend 65536 65535 16 5
+    ∷ borrow 65535 65536 16 4
+    ∷ borrow 65536 65535 16 5
     ∷ counts 18446744073709551600 10 5
     ∷ counter 0
     ∷ memory 0x2000 (0xE1 ∷ [])
     ∷ supposeCounts 18446744073709551600 10 6
-    ∷ lend 65535 0 1 1
+    ∷ borrow 65535 0 1 1
     ∷ sendRefused 0x006C 0x83 1
     ∷ expectRefused 0x6B 1
     ∷ [])

@@ -26,7 +26,8 @@ pub record Move : Type 0 where
   pub to : Place
   pub byte : ℕ
 
--- what a clock leaves on record: its kind, the byte moved if one was, what the counter held if it was put to zero
+-- what a clock leaves on record: its kind, the byte moved if one was, and what the counter held just before it was put to
+-- zero, this clock's byte included
 pub record Note : Type 0 where
   pub kind : Kind
   pub move : Option Move

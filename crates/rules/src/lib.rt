@@ -4,7 +4,7 @@
 // One of the device's two ports, A or B.
 #[repr(C)]
 pub struct Port {
-    // Starting address, 0 to 65,535: what Load copies into the pointer.
+    // Starting address, 0 to 65,535: what Load and auto restart copy into the pointer.
     pub address: u16,
     // Address of the next byte, 0 to 65,535.
     pub pointer: u16,
@@ -43,9 +43,9 @@ pub struct Control {
 // The two bits of the status byte that change.
 #[repr(C)]
 pub struct Status {
-    // Bit E: false once a whole block has been transferred.
+    // Bit E: false once a block was found finished, until Reset or 8B.
     pub e: bool,
-    // Bit T: true once a byte has been transferred.
+    // Bit T: true once a byte has been transferred, until Reset or 8B.
     pub t: bool,
 }
 
@@ -74,7 +74,7 @@ pub struct Pending {
     pub fourth: u8,
 }
 
-// The running transfer slot (document 01: slot), all 0 and continuous while no clock of a slot has elapsed.
+// The running transfer slot (document 01: slot); in a valid core all 0 and continuous while no clock of one has elapsed.
 #[repr(C)]
 pub struct Slot {
     // Clocks elapsed (document 01: spent), 0 to 8,159.

@@ -19,12 +19,12 @@ use Rattle.rules.proofs.Choice.{pick-both}
 use Rattle.rules.proofs.Validity.{parts-core}
 use Rattle.rules.proofs.Counting.{clocked-zero, clocked-add, clocked-kept, clocked-total}
 use Rattle.rules.proofs.Spans.{span-clocked}
-use Rattle.rules.proofs.Calls.{granted, flat-memory, valid-sound}
-use Rattle.clocking.specs.Answers.{lent}
+use Rattle.rules.proofs.Calls.{granted, flat-memory, valid-device}
+use Rattle.clocking.specs.Answers.{borrowed}
 
 -- a system from its parts
 abbrev pub made : List ℕ → List ℕ → Core → Clocks → System (List ℕ)
-made m l c k = record { world = record { core = c; buffers = lent m l }; clocks = k }
+made m l c k = record { world = record { core = c; buffers = borrowed m l }; clocks = k }
 
 -- of n clocks from s on, `left` are left
 pub record Going (s : System (List ℕ)) (n : ℕ) (m l : List ℕ) (c : Core) (k : Clocks) (left : ℕ) : Type 0 where
@@ -35,15 +35,15 @@ pub record Going (s : System (List ℕ)) (n : ℕ) (m l : List ℕ) (c : Core) (
   pub kept : Kept c
   pub room : total k + left ≤ most64
 
-pub going-start : (m l : List ℕ) (c : Core) (k : Clocks) (n : ℕ) → InRange c → grantRefusal flat c (total k) (lent m l) n ≡ 0 → Going (made m l c k) n m l c k n
+pub going-start : (m l : List ℕ) (c : Core) (k : Clocks) (n : ℕ) → InRange c → grantRefusal flat c (total k) (borrowed m l) n ≡ 0 → Going (made m l c k) n m l c k n
 going-start m l c k n r e =
-    let g = granted flat c (total k) (lent m l) n e in
+    let g = granted flat c (total k) (borrowed m l) n e in
     record {
       within = omega arith;
       here = ap (λ (j : ℕ). clocked flat j (made m l c k)) (let z : n - n ≡ 0 = omega arith in z) ∙ clocked-zero flat (made m l c k);
       memory = flat-memory m (g .memory);
       latches = g .latches;
-      kept = valid-sound c k r (g .state) .core;
+      kept = valid-device c k r (g .state) .core;
       room = g .room;
     }
 
@@ -69,7 +69,7 @@ between-lengths moves from to b =
 
 -- ---- one span more
 
-module _ {s : System (List ℕ)} {n : ℕ} {m l m′ l′ : List ℕ} {c : Core} {k k′ : Clocks} {left j kind : ℕ} {moves : Bool} {from to : Place} {next : Core} (g : Going s n m l c k left) (p : IsSpan c left j kind moves from to next) (b : lent m′ l′ ≡ buffersBetween flat moves from to (lent m l)) (e : k′ ≡ countedBy kind j k) where
+module _ {s : System (List ℕ)} {n : ℕ} {m l m′ l′ : List ℕ} {c : Core} {k k′ : Clocks} {left j kind : ℕ} {moves : Bool} {from to : Place} {next : Core} (g : Going s n m l c k left) (p : IsSpan c left j kind moves from to next) (b : borrowed m′ l′ ≡ buffersBetween flat moves from to (borrowed m l)) (e : k′ ≡ countedBy kind j k) where
   -- the clocks of the span
   spanned : clocked flat j (made m l c k) ≡ made m′ l′ next k′
   spanned =
@@ -85,8 +85,8 @@ module _ {s : System (List ℕ)} {n : ℕ} {m l m′ l′ : List ℕ} {c : Core}
             ∙ clocked-add flat (n - left) j s
             ∙ ap (clocked flat j) (g .here)
             ∙ spanned;
-        memory = ap (λ (x : Buffers (List ℕ)). length (x .memory)) b ∙ between-lengths moves from to (lent m l) .0 ∙ g .memory;
-        latches = ap (λ (x : Buffers (List ℕ)). length (x .latches)) b ∙ between-lengths moves from to (lent m l) .1 ∙ g .latches;
+        memory = ap (λ (x : Buffers (List ℕ)). length (x .memory)) b ∙ between-lengths moves from to (borrowed m l) .0 ∙ g .memory;
+        latches = ap (λ (x : Buffers (List ℕ)). length (x .latches)) b ∙ between-lengths moves from to (borrowed m l) .1 ∙ g .latches;
         kept = rw (ap (λ (x : System (List ℕ)). x .world .core) spanned) at (clocked-kept flat j (made m l c k) (g .kept));
         room =
             omega (
@@ -106,5 +106,5 @@ going-end {s} {n} {left = left} g h =
     sym (g .here) ∙ ap (λ (j : ℕ). clocked flat j s) (let z : n - left ≡ n = omega arith in z)
 
 -- the buffers that an accepted grant was lent
-pub lent-lengths : (m l : List ℕ) (c : Core) (sum n : ℕ) → grantRefusal flat c sum (lent m l) n ≡ 0 → (length m ≡ 65536) × (length l ≡ 65536)
-lent-lengths m l c sum n e = let g = granted flat c sum (lent m l) n e in (flat-memory m (g .memory), g .latches)
+pub borrowed-lengths : (m l : List ℕ) (c : Core) (sum n : ℕ) → grantRefusal flat c sum (borrowed m l) n ≡ 0 → (length m ≡ 65536) × (length l ≡ 65536)
+borrowed-lengths m l c sum n e = let g = granted flat c sum (borrowed m l) n e in (flat-memory m (g .memory), g .latches)

@@ -1,29 +1,29 @@
-// The device: power on, port writes, port reads and grants of clocks. A device goes in by value and comes back with the answer; a refused
-// call hands it back as it came.
+// The device: power on, port writes, port reads and grants of clocks. A device goes in by value and comes back with the
+// answer; a refused call hands it back as it came.
 ghost use mathlib.Core.Path.{_≡_};
 ghost use Rattle.rules.specs.Validity.{total};
 ghost use Rattle.rules.specs.Buffers.{flat};
 ghost use Rattle.rules.specs.World.{clocked};
 ghost use Rattle.rules.specs.Refusals.{grantRefusal};
 ghost use Rattle.rules.specs.Calls.{writeReply, readReply, grant};
-ghost use Rattle.clocking.specs.Answers.{lent};
-ghost use Rattle.zxndma.specs.Grants.{lentRefusal};
+ghost use Rattle.clocking.specs.Answers.{borrowed};
+ghost use Rattle.zxndma.specs.Grants.{borrowedRefusal};
 ghost use Rattle.zxndma.specs.Answers.{deviceAtPowerOn, writeAnswer, readAnswer, systemOf, grantAnswer};
 use clocking::clock;
 use clocking::count;
 use clocking::transfer;
+use registers::command;
+use registers::part;
+use registers::pending;
 use registers::readback;
 use registers::refusal;
 use registers::register;
+use registers::valid;
 use rules::Block;
 use rules::Clocks;
 use rules::Control;
 use rules::Core;
-use rules::Pending;
 use rules::Port;
-use rules::Readback;
-use rules::Slot;
-use rules::Status;
 
 // A zxnDMA: its core and its clock counts (document 01: books). Any content is a device; the calls refuse an invalid one.
 #[repr(C)]
@@ -84,24 +84,10 @@ impl Device {
             burst: false,
             restart: false,
         };
-        let status = Status { e: true, t: false };
-        let readback = Readback {
-            mask: 127,
-            position: 0,
-            waiting: false,
-        };
-        let pending = Pending {
-            first: 0,
-            second: 0,
-            third: 0,
-            fourth: 0,
-        };
-        let slot = Slot {
-            elapsed: 0,
-            bus: 0,
-            length: 0,
-            burst: false,
-        };
+        let status = command::status_at_reset();
+        let readback = command::readback_at_reset();
+        let pending = pending::none();
+        let slot = part::no_slot();
         let clocks = Clocks {
             bus: 0,
             held: 0,
@@ -121,7 +107,8 @@ impl Device {
         Device { core, clocks }
     }
 
-    // A byte is written to a port: to the DMA's if the port number's low byte is 6B (zxn mode) or 0B (Zilog mode).
+    // A byte is written to the DMA's port: the port number's low byte is 6B (zxn mode) or 0B (Zilog mode). Refused with 1, 2
+    // or 3, and then nothing changes.
     pub fn write(self, port: u16, byte: u8) -> WriteAnswer
         ensures { λ r. ⌜ r ≡ writeAnswer (writeReply (self .core) (self .clocks) port byte) ⌝ }
     {
@@ -139,7 +126,7 @@ impl Device {
         }
     }
 
-    // A byte is read from a port.
+    // A byte is read from a port. Refused with 1, 2 or 3, and then the byte is 0 and nothing changes.
     pub fn read(self, port: u16) -> ReadAnswer
         ensures { λ r. ⌜ r ≡ readAnswer (readReply (self .core) (self .clocks) port) ⌝ }
     {
@@ -163,7 +150,8 @@ impl Device {
         }
     }
 
-    // That many clocks pass, with memory and latches lent. An accepted grant uses all of them.
+    // That many clocks pass, and all of them are used. Memory and latches must be 65,536 bytes each. Refused with 1, 4, 5 or
+    // 6, and then nothing changes.
     pub fn grant(self, memory: &mut [u8], latches: &mut [u8], clocks: u32) -> GrantAnswer
         ensures { λ r. ⌜ grantAnswer r (now (memory .exit)) (now (latches .exit)) ≡ grant flat (systemOf self (now (memory .entry)) (now (latches .entry))) clocks ⌝ }
     {
@@ -180,7 +168,7 @@ impl Device {
 
     // Why a grant is refused, 0 for accepted. The sum of a valid device's counts is within 64 bits, so that no sum wraps.
     fn grant_number(self, memory: usize, latches: usize, clocks: u32) -> u8
-        ensures { λ r. ⌜ r ≡ lentRefusal (self .core) (total (self .clocks)) memory latches clocks ⌝ }
+        ensures { λ r. ⌜ r ≡ borrowedRefusal (self .core) (total (self .clocks)) memory latches clocks ⌝ }
     {
         let core = self.core;
         let counts = self.clocks;
@@ -194,7 +182,7 @@ impl Device {
             return 5;
         }
         let sum = counts.bus + counts.held + counts.cpu;
-        if 18446744073709551615 - sum < clocks as u64 {
+        if valid::MOST - sum < clocks as u64 {
             return 6;
         }
         0
@@ -202,7 +190,7 @@ impl Device {
 
     // The clocks of an accepted grant, span after span.
     fn spend(self, memory: &mut [u8], latches: &mut [u8], clocks: u32) -> Device
-        requires { ⌜ grantRefusal flat (self .core) (total (self .clocks)) (lent (now memory) (now latches)) clocks ≡ 0 ⌝ }
+        requires { ⌜ grantRefusal flat (self .core) (total (self .clocks)) (borrowed (now memory) (now latches)) clocks ≡ 0 ⌝ }
         ensures { λ r. ⌜ systemOf r (now (memory .exit)) (now (latches .exit)) ≡ clocked flat clocks (systemOf self (now (memory .entry)) (now (latches .entry))) ⌝ }
     {
         let mut core = self.core;

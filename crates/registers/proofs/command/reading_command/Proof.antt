@@ -26,12 +26,12 @@ returns-3 : tie.Need-returns-3
 unfolding readingCommand pick
 returns-3 c = simp (ne-eqb _ _ (c .before .before .before .if1 .left), ne-eqb _ _ (c .before .before .if2 .left), eq-eqb _ _ (c .before .if3 .taken), c .reading-restarted .ensures)
 
-mask-awaited-requires : tie.Need-mask-awaited-requires
-mask-awaited-requires c κs = search needs
+mask-pending-requires : tie.Need-mask-pending-requires
+mask-pending-requires c κs = search needs
 
 returns-4 : tie.Need-returns-4
 unfolding readingCommand pick
-returns-4 c = simp (ne-eqb _ _ (c .before .before .before .before .if1 .left), ne-eqb _ _ (c .before .before .before .if2 .left), ne-eqb _ _ (c .before .before .if3 .left), eq-eqb _ _ (c .before .if4 .taken), c .mask-awaited .ensures)
+returns-4 c = simp (ne-eqb _ _ (c .before .before .before .before .if1 .left), ne-eqb _ _ (c .before .before .before .if2 .left), ne-eqb _ _ (c .before .before .if3 .left), eq-eqb _ _ (c .before .if4 .taken), c .mask-pending .ensures)
 
 returns-5 : tie.Need-returns-5
 unfolding readingCommand pick
@@ -47,6 +47,6 @@ reading-command-spec =
     returns-2
     reading-restarted-requires
     returns-3
-    mask-awaited-requires
+    mask-pending-requires
     returns-4
     returns-5)

@@ -6,7 +6,7 @@ with-high-requires : tie.Need-with-high-requires
 with-high-requires c κs = search needs
 
 returns : tie.Need-returns
-returns c = simp (← c .with-high .ensures)
+returns c = simp (c .with-high .ensures)
 
 pub address-high-spec : {M : Type 1} → statement M
 address-high-spec = tie.close (tie.spec with-high-requires returns)

@@ -3,40 +3,28 @@ use Rattle.rules.specs.Refusals.{accessRefusal}
 use borrow.Author.Needs.{needs}
 use Rattle.registers.proofs.refusal.access_number.Statement.{statement}
 use Rattle.registers.proofs.refusal.access_number.Tie as tie
-use Rattle.registers.proofs.refusal.access_number.Reads as reads
-use Rattle.registers.proofs.refusal.access_number.Lts as lts
-use Rattle.registers.proofs.refusal.is_valid.Reads as is-valid-reads
-use Rattle.registers.proofs.refusal.is_wrong_port.Reads as is-wrong-port-reads
-use Rattle.registers.proofs.slot.holds_bus.Reads as holds-bus-reads
 
--- src/refusal.rt:31:9
 is-valid-requires : tie.Need-is-valid-requires
 is-valid-requires c κs = search needs
 
--- src/refusal.rt:32:9
 is-wrong-port-requires : tie.Need-is-wrong-port-requires
 is-wrong-port-requires c κs = search needs
 
--- src/refusal.rt:33:9
 holds-bus-requires : tie.Need-holds-bus-requires
 holds-bus-requires c κs = search needs
 
--- src/refusal.rt:35:9
 returns : tie.Need-returns
 unfolding accessRefusal firstHit pick
 returns c = simp (c .if1 .taken, ← c .before .before .before .is-valid .ensures, ← c .before .before .is-wrong-port .ensures, ← c .before .holds-bus .ensures)
 
--- src/refusal.rt:38:9
 returns-2 : tie.Need-returns-2
 unfolding accessRefusal firstHit pick
 returns-2 c = simp (c .before .if1 .left, c .if2 .taken, ← c .before .before .before .before .is-valid .ensures, ← c .before .before .before .is-wrong-port .ensures, ← c .before .before .holds-bus .ensures)
 
--- src/refusal.rt:41:9
 returns-3 : tie.Need-returns-3
 unfolding accessRefusal firstHit pick
 returns-3 c = simp (c .before .before .if1 .left, c .before .if2 .left, c .if3 .taken, ← c .before .before .before .before .before .is-valid .ensures, ← c .before .before .before .before .is-wrong-port .ensures, ← c .before .before .before .holds-bus .ensures)
 
--- src/refusal.rt:28:1
 returns-4 : tie.Need-returns-4
 unfolding accessRefusal firstHit pick
 returns-4 c = simp (c .before .before .if1 .left, c .before .if2 .left, c .if3 .left, ← c .before .before .before .before .before .is-valid .ensures, ← c .before .before .before .before .is-wrong-port .ensures, ← c .before .before .before .holds-bus .ensures)

@@ -1,5 +1,5 @@
 use mathlib.Core.Path.{sym, _∙_}
-use Rattle.zxndma.proofs.Going.{made, Going, going-start, going-valid, going-more, going-end, lent-lengths}
+use Rattle.zxndma.proofs.Going.{made, Going, going-start, going-valid, going-more, going-end, borrowed-lengths}
 use native.Mathlib.Omega.{arith}
 use borrow.Author.Needs.{needs}
 use Rattle.zxndma.proofs.Device.spend.Statement.{statement}
@@ -36,10 +36,10 @@ loop-again : tie.Need-loop-again Inv-loop μ-loop
 loop-again c = going-more (c .before .before .before .before .before .before .before .before .before .before .before .before .before .before .loop .inv) (c .before .before .before .before .before .before .before .before .before .before .before .before .next-span .ensures) (c .before .before .before .before .before .before .before .move-if .ensures) (c .before .before .add .ensures)
 
 same-length : tie.Need-same-length Inv-loop μ-loop
-same-length c = c .before .loop .inv .memory ∙ sym (lent-lengths _ _ _ _ _ (c .before .before .before .before .before .before .pre) .0)
+same-length c = c .before .loop .inv .memory ∙ sym (borrowed-lengths _ _ _ _ _ (c .before .before .before .before .before .before .pre) .0)
 
 same-length-2 : tie.Need-same-length-2 Inv-loop μ-loop
-same-length-2 c = c .before .loop .inv .latches ∙ sym (lent-lengths _ _ _ _ _ (c .before .before .before .before .before .before .pre) .1)
+same-length-2 c = c .before .loop .inv .latches ∙ sym (borrowed-lengths _ _ _ _ _ (c .before .before .before .before .before .before .pre) .1)
 
 returns : tie.Need-returns Inv-loop μ-loop
 returns c = going-end (c .before .loop .inv) (c .loop-test .left)

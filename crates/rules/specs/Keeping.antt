@@ -1,0 +1,32 @@
+-- What every call keeps: a valid device stays valid, and a refused call hands everything back.
+-- Assumes nothing.
+use Prim.Native.Nat.{ℕ, _≤_, _<_}
+use mathlib.Core.Path.{_≡_}
+use Rattle.rules.specs.PowerOn.{powerOn, noClocks}
+use Rattle.rules.specs.Validity.{total, most64}
+use Rattle.rules.specs.Facts.{Kept}
+use Rattle.rules.specs.Clock.{clockOf}
+use Rattle.rules.specs.Buffers.{Store}
+use Rattle.rules.specs.World.{World, System}
+use Rattle.rules.specs.Refusals.{accessRefusal}
+use Rattle.rules.specs.Calls.{Reply, Answer, refused, writeReply, readReply, grantNumber, grant}
+use Rattle.rules.specs.declared.Clocks.{Clocks}
+use Rattle.rules.specs.declared.Core.{Core}
+
+-- a valid core within its types, and a sum of clock counts that fits
+pub record ValidDevice (c : Core) (k : Clocks) : Type 0 where
+  pub core : Kept c
+  pub sum : total k ≤ most64
+
+pub record StaysValid {M : Type 0} (σ : Store M) : Type 0 where
+  pub power-on : ValidDevice powerOn noClocks
+  pub write : (c : Core) (k : Clocks) (port byte : ℕ) → byte < 256 → ValidDevice c k → ValidDevice (writeReply c k port byte .core) (writeReply c k port byte .clocks)
+  pub read : (c : Core) (k : Clocks) (port : ℕ) → ValidDevice c k → ValidDevice (readReply c k port .core) (readReply c k port .clocks)
+  pub clock : (c : Core) → Kept c → Kept (clockOf c .next)
+  pub granted : (s : System M) (n : ℕ) → ValidDevice (s .world .core) (s .clocks) → ValidDevice (grant σ s n .system .world .core) (grant σ s n .system .clocks)
+
+-- a refused call answers its number, no byte, and all that it was handed
+pub record HandsBack {M : Type 0} (σ : Store M) : Type 0 where
+  pub write : (c : Core) (k : Clocks) (port byte : ℕ) → (writeReply c k port byte .number ≡ 0 → ⊥) → writeReply c k port byte ≡ refused (accessRefusal c (total k) port) c k
+  pub read : (c : Core) (k : Clocks) (port : ℕ) → (readReply c k port .number ≡ 0 → ⊥) → readReply c k port ≡ refused (accessRefusal c (total k) port) c k
+  pub granted : (s : System M) (n : ℕ) → (grant σ s n .number ≡ 0 → ⊥) → grant σ s n ≡ record { number = grantNumber σ s n; byte = 0; system = s }
