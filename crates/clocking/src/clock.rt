@@ -22,7 +22,14 @@ use rules::Place;
 use rules::Port;
 use rules::Slot;
 
-// A clock: its kind (0 bus, 1 held, 2 processor), whether a byte moves on it, and the core after it.
+// The kinds of clocks: on the bus, waiting with the bus held, left to the processor.
+pub const BUS: u8 = 0;
+
+pub const HELD: u8 = 1;
+
+pub const CPU: u8 = 2;
+
+// A clock: its kind (BUS, HELD or CPU), whether a byte moves on it, and the core after it.
 pub struct Tick {
     pub kind: u8,
     pub moves: bool,
@@ -31,7 +38,7 @@ pub struct Tick {
 
 // A span of clocks of one kind, on whose last clock a byte may move.
 pub struct Span {
-    // 0 bus, 1 held, 2 processor.
+    // BUS, HELD or CPU.
     pub kind: u8,
     // How many clocks: within the budget, and 0 only for a budget of 0.
     pub clocks: u32,
@@ -134,12 +141,12 @@ fn kind_at(n: u16, c: Core) -> u8
     ensures { λ r. ⌜ r ≡ kindCode (kindAt n c) ⌝ }
 {
     if n <= c.slot.bus {
-        return 0;
+        return BUS;
     }
     if c.slot.burst {
-        return 2;
+        return CPU;
     }
-    1
+    HELD
 }
 
 // No clock of a slot has elapsed.
@@ -223,7 +230,7 @@ fn first_clock(c: Core) -> Tick
     if block::is_finished(b) {
         let next = stop(c);
         return Tick {
-            kind: 2,
+            kind: CPU,
             moves: false,
             next,
         };
@@ -247,7 +254,7 @@ fn clock(c: Core) -> Tick
         return slot_clock(n, c);
     }
     Tick {
-        kind: 2,
+        kind: CPU,
         moves: false,
         next: c,
     }
@@ -296,7 +303,7 @@ pub fn next_span(c: Core, budget: u32) -> Span
     let to = destination_of(c);
     if budget == 0 {
         return Span {
-            kind: 2,
+            kind: CPU,
             clocks: 0,
             moves: false,
             from,

@@ -3,6 +3,7 @@ ghost use mathlib.Core.Path.{_≡_};
 ghost use Prim.Native.Nat.{_+_, _≤_};
 ghost use Rattle.rules.specs.Validity.{total, most64};
 ghost use Rattle.rules.specs.Spans.{countedBy};
+use crate::clock;
 use rules::Clocks;
 
 fn wide(x: u32) -> u64
@@ -17,12 +18,12 @@ pub fn add(kind: u8, n: u32, k: Clocks) -> Clocks
     ensures { λ r. ⌜ r ≡ countedBy kind n k ⌝ }
 {
     let more = wide(n);
-    if kind == 0 {
+    if kind == clock::BUS {
         let mut next = k;
         next.bus = k.bus + more;
         return next;
     }
-    if kind == 1 {
+    if kind == clock::HELD {
         let mut next = k;
         next.held = k.held + more;
         return next;

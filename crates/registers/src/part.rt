@@ -3,8 +3,6 @@ ghost use mathlib.Core.Path.{_≡_};
 ghost use Rattle.rules.specs.Parts.{withA, withB, withStatus, withReadback, withPending, withSlot};
 ghost use Rattle.rules.specs.Slots.{noSlot};
 ghost use Rattle.rules.specs.Commands.{disable};
-use rules::Block;
-use rules::Control;
 use rules::Core;
 use rules::Pending;
 use rules::Port;

@@ -2,35 +2,33 @@
 -- history's sum; and the bytes noted balance the counter, clock by clock and write by write. Grants split because n clocks
 -- keep a valid device valid and clocks of m + n are n after m.
 -- Assumes nothing.
-use Prim.Native.Nat.{ℕ, zero, suc, _+_, _≤_}
+use Prim.Native.Nat.{ℕ, zero, suc, _+_}
 use native.Mathlib.Omega.{arith}
 use native.Mathlib.Nat.{add-zero, zero-add, add-assoc}
 use mathlib.Core.Path.{_≡_, refl, sym, _∙_, ap, subst}
 use mathlib.Core.Bool.{Bool, true, false, not}
 use mathlib.Core.List.{List, [], _∷_}
-use mathlib.Core.Option.{Option, none, some}
 use lib.Dec.{eqb}
 use lib.ListN.{length, set, length-set}
-use borrow.Author.Tests.{eqb-true, eqb-false, eq-eqb, ne-eqb}
+use borrow.Author.Tests.{eqb-true, eqb-false, ne-eqb}
 use Rattle.rules.specs.Choice.{pick, test, firstHit}
-use Rattle.rules.specs.Validity.{total, most64}
-use Rattle.rules.specs.Facts.{InRange, Kept}
+use Rattle.rules.specs.Validity.{total}
+use Rattle.rules.specs.Facts.{InRange}
 use Rattle.rules.specs.Clock.{Kind, busClock, heldClock, cpuClock, counted, clockOf}
 use Rattle.rules.specs.Registers.{written}
 use Rattle.rules.specs.Readback.{readByte}
-use Rattle.rules.specs.Buffers.{Store, flat, Buffers, put, source, destination, byteAt}
-use Rattle.rules.specs.World.{World, System, Move, Note, buffersAfter, step, note, stepCounted, clocked}
+use Rattle.rules.specs.Buffers.{Store, flat, Buffers, put}
+use Rattle.rules.specs.World.{World, System, Note, buffersAfter, step, note, stepCounted, clocked}
 use Rattle.rules.specs.Refusals.{accessRefusal, grantRefusal}
-use Rattle.rules.specs.Calls.{Reply, Answer, accepted, refused, writeReply, readReply, beside, write, read, grantNumber, grant}
-use Rattle.rules.specs.Entries.{Outside, Poke, poked, flatOutside, BorrowedMemory, ownMemory, otherMemory, BorrowedLatches, ownLatches, otherLatches, Entry, portWrite, portRead, clockGrant, outsideChange, Answered, Run, besideBuffers, borrowedBuffers, ownBuffersAfter, grantBorrowed, changedOutside, enter, run, systemAtPowerOn}
-use Rattle.rules.specs.History.{Event, clockNoted, counterZeroed, Past, zeroing, EntryNoted, History, withCore, writePassed, clockPassed, clocksPassed, grantPassed, unlessRefused, changePassed, noteEntry, history, pastAtPowerOn}
-use Rattle.rules.specs.Accounts.{ofKind, clocksNoted, bytesOf, bytesNoted, heldBefore, zeroedNoted, clocksAsked, clocksAccepted, numbersOf, sumOf, AcceptedInTurn, Splits, StoreKeepsRefusal, Accounted, Demand3, Demand3Flat, ZeroNoted, PokesKeepLength}
+use Rattle.rules.specs.Calls.{Reply, Answer, writeReply, readReply, beside, write, read, grantNumber, grant}
+use Rattle.rules.specs.Entries.{Outside, Poke, poked, flatOutside, BorrowedMemory, ownMemory, otherMemory, BorrowedLatches, ownLatches, otherLatches, Entry, portWrite, portRead, clockGrant, outsideChange, besideBuffers, borrowedBuffers, ownBuffersAfter, grantBorrowed, enter, run, systemAtPowerOn}
+use Rattle.rules.specs.History.{Event, clockNoted, counterZeroed, Past, withCore, writePassed, clockPassed, clocksPassed, grantPassed, unlessRefused, noteEntry, history, pastAtPowerOn}
+use Rattle.rules.specs.Accounts.{ofKind, clocksNoted, bytesOf, bytesNoted, heldBefore, zeroedNoted, clocksAsked, clocksAccepted, numbersOf, sumOf, AcceptedInTurn, Splits, StoreKeepsRefusal, Demand3, Demand3Flat, ZeroNoted, PokesKeepLength}
 use Rattle.rules.specs.Opened.{opened}
 use Rattle.rules.specs.declared.Place.{Place}
 use Rattle.rules.specs.declared.Clocks.{Clocks}
-use Rattle.rules.specs.declared.Core.{Core}
-use Rattle.rules.proofs.Choice.{clash, pick-cases, pick-both, pick-true, pick-false, pick-ap, either}
-use Rattle.rules.proofs.Counting.{clocked-zero, clocked-suc, clocked-add, clocked-total, clocked-kept}
+use Rattle.rules.proofs.Choice.{pick-cases, pick-both, pick-true, pick-false, pick-ap}
+use Rattle.rules.proofs.Counting.{clocked-zero, clocked-add, clocked-total, clocked-kept}
 use Rattle.rules.proofs.Calls.{Granted, granted, grantable, grant-accepts, grant-refuses, valid-device, device-valid}
 use Rattle.rules.proofs.Counter.{write-zero, write-same, read-same, clock-balanced}
 

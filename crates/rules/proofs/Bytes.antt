@@ -1,9 +1,9 @@
 -- Bits that a byte does not have are clear.
 -- Assumes nothing.
-use Prim.Native.Nat.{ℕ, _/_, _%_, _^_, _≤_, _<_}
+use Prim.Native.Nat.{ℕ, _%_, _≤_, _<_}
 use native.Mathlib.Nat.{lt-of-lt-of-le, div-eq-of-lt}
 use mathlib.Core.Path.{_≡_, ap}
-use mathlib.Core.Bool.{Bool, false}
+use mathlib.Core.Bool.{false}
 use lib.Dec.{eqb}
 use lib.Pow.{pow-mono}
 use Rattle.rules.specs.Bytes.{bit}

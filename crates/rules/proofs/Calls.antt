@@ -4,26 +4,23 @@ use Prim.Native.Nat.{ℕ, suc, _+_, _≤_, _<_}
 use native.Mathlib.Omega.{arith}
 use mathlib.Core.Path.{_≡_, refl, sym, _∙_, ap}
 use mathlib.Core.Bool.{Bool, true, false, not}
-use mathlib.Core.List.{List, [], _∷_, _++_}
-use lib.Dec.{ltb, eqb}
+use mathlib.Core.List.{List, _∷_}
 use lib.ListN.{length}
 use borrow.Author.Tests.{leb-true, le-leb, le-ltb, ltb-false, eqb-true, eqb-false, eq-eqb, ne-eqb, not-false, not-true}
 use Rattle.rules.specs.Choice.{Test, test, firstHit}
 use Rattle.rules.specs.Slots.{busHeld}
 use Rattle.rules.specs.PowerOn.{powerOn, noClocks}
-use Rattle.rules.specs.Validity.{validCore, valid, total, most64}
-use Rattle.rules.specs.Facts.{InRange, Kept}
-use Rattle.rules.specs.Registers.{written}
-use Rattle.rules.specs.Readback.{readByte}
+use Rattle.rules.specs.Validity.{valid, total, most64}
+use Rattle.rules.specs.Facts.{InRange}
 use Rattle.rules.specs.Buffers.{Store, flat, Buffers}
-use Rattle.rules.specs.World.{World, System, clocked}
+use Rattle.rules.specs.World.{System, clocked}
 use Rattle.rules.specs.Refusals.{wrongPort, accessRefusal, grantRefusal}
-use Rattle.rules.specs.Calls.{Reply, Answer, refused, accepted, writeReply, readReply, beside, write, read, grantNumber, grant}
+use Rattle.rules.specs.Calls.{Reply, Answer, refused, writeReply, readReply, write, read, grantNumber, grant}
 use Rattle.rules.specs.Keeping.{ValidDevice, StaysValid, HandsBack}
 use Rattle.rules.specs.Opened.{opened}
 use Rattle.rules.specs.declared.Clocks.{Clocks}
 use Rattle.rules.specs.declared.Core.{Core}
-use Rattle.rules.proofs.Choice.{clash, pick-cases, pick-true, pick-false, either, all-true, true-all}
+use Rattle.rules.proofs.Choice.{pick-cases, pick-true, pick-false, either, all-true, true-all}
 use Rattle.rules.proofs.Validity.{core-parts, parts-core}
 use Rattle.rules.proofs.Writing.{write-kept}
 use Rattle.rules.proofs.Reading.{read-kept}

@@ -1,25 +1,25 @@
 -- One clock keeps a valid core valid. What is needed of a slot's n-th clock: the slot's figures are valid, n is within the
 -- length, and up to the bus time the block is not finished, so the counter has room for one more.
 -- Assumes nothing.
-use Prim.Native.Nat.{ℕ, _+_, _*_, _%_, _≤_, _<_}
+use Prim.Native.Nat.{ℕ, _+_, _≤_, _<_}
 use native.Mathlib.Omega.{arith}
-use mathlib.Core.Path.{_≡_, refl, sym, _∙_}
+use mathlib.Core.Path.{_≡_, refl}
 use mathlib.Core.Bool.{Bool, true, false}
 use mathlib.Core.List.{[], _∷_}
-use lib.Dec.{leb, ltb, eqb}
+use lib.Dec.{ltb, eqb}
 use native.Mathlib.Nat.{le-of-eq, le-of-lt}
-use borrow.Author.Tests.{ltb-true, ltb-false, leb-false, eqb-true, eqb-false, lt-leb}
+use borrow.Author.Tests.{ltb-true, leb-false, eqb-true, eqb-false, lt-leb}
 use Rattle.rules.specs.Choice.{every}
-use Rattle.rules.specs.Parts.{withCounter, withBlock, withSlot}
+use Rattle.rules.specs.Parts.{withCounter, withSlot}
 use Rattle.rules.specs.Blocks.{blockCount, finished}
 use Rattle.rules.specs.Slots.{noSlot, unmoved}
-use Rattle.rules.specs.Facts.{Kept, Resting, SlotLength, busTime, prescaled, Running, ValidSlot, resting, running}
+use Rattle.rules.specs.Facts.{Kept, SlotLength, busTime, prescaled, ValidSlot, resting, running}
 use Rattle.rules.specs.Clock.{Clock, slotLength, newSlot, moved, withElapsed, movesAt, movedAt, Ending, slotEnd, clockEnd, slotClock, firstClock, clockOf}
 use Rattle.rules.specs.declared.Block.{Block}
 use Rattle.rules.specs.declared.Slot.{Slot}
 use Rattle.rules.specs.declared.Core.{Core}
-use Rattle.rules.proofs.Choice.{clash, pick-cases, pick-both, either, all-true}
-use Rattle.rules.proofs.Slots.{unmoved-cases, unmoved-first, unmoved-below}
+use Rattle.rules.proofs.Choice.{clash, pick-cases, pick-both, all-true}
+use Rattle.rules.proofs.Slots.{unmoved-cases, unmoved-below}
 use Rattle.rules.proofs.Ports.{good-advanced, good-loaded}
 use Rattle.rules.proofs.Steady.{SteadyCore, steady-a, steady-b, steady-block, kept-from, kept-steady, kept-slot, kept-progress}
 

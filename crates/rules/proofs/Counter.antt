@@ -7,15 +7,14 @@ use native.Mathlib.Nat.{add-zero}
 use mathlib.Core.Path.{_≡_, refl, sym, _∙_, ap}
 use mathlib.Core.Bool.{Bool, true, false}
 use mathlib.Core.List.{[], _∷_}
-use mathlib.Core.Option.{Option, none, some}
 use lib.Dec.{eqb}
 use borrow.Author.Tests.{eqb-true}
 use Rattle.rules.specs.Choice.{pick, any}
 use Rattle.rules.specs.Pending.{isPending}
 use Rattle.rules.specs.Commands.{enable, readingCommand, command}
-use Rattle.rules.specs.Registers.{wr3, register, parameter, takeParameter, inMode, effect, written}
+use Rattle.rules.specs.Registers.{wr3, register, parameter, inMode, effect, written}
 use Rattle.rules.specs.Readback.{Byte, readByte}
-use Rattle.rules.specs.Clock.{Clock, movesAt, moved, movedAt, Ending, slotEnd, clockEnd, slotClock, firstClock, clockOf}
+use Rattle.rules.specs.Clock.{Clock, movesAt, movedAt, Ending, slotEnd, clockEnd, slotClock, firstClock, clockOf}
 use Rattle.rules.specs.History.{zeroing}
 use Rattle.rules.specs.Accounts.{heldBefore}
 use Rattle.rules.specs.Opened.{opened}

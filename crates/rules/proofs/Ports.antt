@@ -1,6 +1,6 @@
 -- What the rules do to a port keeps it valid and within its types: said once, for A and B.
 -- Assumes nothing.
-use Prim.Native.Nat.{ℕ, _+_, _*_, _/_, _%_, _≤_, _<_}
+use Prim.Native.Nat.{ℕ, _≤_, _<_}
 use native.Mathlib.Omega.{arith}
 use mathlib.Core.Path.{_≡_}
 use mathlib.Core.Bool.{true}
@@ -10,7 +10,7 @@ use Rattle.rules.specs.Validity.{validPort}
 use Rattle.rules.specs.Facts.{PortInRange, ValidCycle}
 use Rattle.rules.specs.declared.Port.{Port}
 use Rattle.rules.proofs.Choice.{pick-both}
-use Rattle.rules.proofs.Validity.{port-cycle, cycle-port}
+use Rattle.rules.proofs.Validity.{port-cycle}
 
 -- valid, and within its types
 pub record GoodPort (p : Port) : Type 0 where

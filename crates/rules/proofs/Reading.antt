@@ -9,10 +9,9 @@ use borrow.Author.Tests.{ltb-true}
 use Rattle.rules.specs.Bytes.{bit}
 use Rattle.rules.specs.Readback.{after, seek, Byte, readByte}
 use Rattle.rules.specs.Facts.{Kept}
-use Rattle.rules.specs.declared.Readback.{Readback}
 use Rattle.rules.specs.declared.Core.{Core}
 use Rattle.rules.proofs.Choice.{pick-cases, pick-both, pick-true, pick-false}
-use Rattle.rules.proofs.Steady.{SteadyCore, steady-readback, kept-from, kept-steady, kept-slot, kept-progress}
+use Rattle.rules.proofs.Steady.{steady-readback, kept-from, kept-steady, kept-slot, kept-progress}
 
 after-small : (k : ℕ) → after k ≤ 6
 unfolding after

@@ -1,14 +1,13 @@
 -- The slot's tests as facts, and what a free bus says of the slot.
 -- Assumes nothing.
-use Prim.Native.Nat.{ℕ, _≤_, _<_}
+use Prim.Native.Nat.{_≤_, _<_}
 use native.Mathlib.Omega.{arith}
-use mathlib.Core.Path.{_≡_, refl, sym, _∙_}
+use mathlib.Core.Path.{_≡_, sym, _∙_}
 use mathlib.Core.Bool.{Bool, true, false, not}
 use mathlib.Core.List.{[], _∷_}
 use borrow.Author.Tests.{ltb-true, leb-true, eqb-true, eq-eqb, lt-ltb}
-use Rattle.rules.specs.Choice.{every, any}
 use Rattle.rules.specs.Slots.{waiting, busHeld, unmoved}
-use Rattle.rules.specs.Facts.{Resting, Running, ValidSlot, resting, running}
+use Rattle.rules.specs.Facts.{ValidSlot, resting, running}
 use Rattle.rules.specs.declared.Slot.{Slot}
 use Rattle.rules.specs.declared.Core.{Core}
 use Rattle.rules.proofs.Choice.{clash, not-of-false, either, all-true, true-all, any-first, any-more, any-cases, any-none}

@@ -6,11 +6,11 @@ use native.Mathlib.Omega.{arith}
 use native.Mathlib.Nat.{add-zero, add-assoc, le-refl}
 use native.Mathlib.Numerals.{add-one}
 use mathlib.Core.Path.{_≡_, refl, sym, _∙_, ap}
-use mathlib.Core.Bool.{Bool, true, false}
+use mathlib.Core.Bool.{Bool, false}
 use Rattle.rules.specs.Choice.{pick}
 use Rattle.rules.specs.Clock.{Kind, busClock, heldClock, cpuClock, counted, clockOf}
-use Rattle.rules.specs.Buffers.{Store, Buffers, source, destination, transfer}
-use Rattle.rules.specs.World.{World, System, buffersAfter, step, stepCounted, clocked}
+use Rattle.rules.specs.Buffers.{Store, Buffers, source, destination}
+use Rattle.rules.specs.World.{System, buffersAfter, clocked}
 use Rattle.rules.specs.Spans.{kindCode, ticks, countedBy, buffersBetween, IsSpan}
 use Rattle.rules.specs.declared.Place.{Place}
 use Rattle.rules.specs.declared.Clocks.{Clocks}

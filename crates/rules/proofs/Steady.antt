@@ -1,12 +1,12 @@
 -- The parts of a kept core that neither the slot nor being enabled bears on, and a kept core put together from its parts.
 -- Assumes nothing.
-use Prim.Native.Nat.{ℕ, _≤_, _<_}
+use Prim.Native.Nat.{_≤_, _<_}
 use mathlib.Core.Path.{_≡_}
 use mathlib.Core.Bool.{true, false}
 use Rattle.rules.specs.Blocks.{finished}
 use Rattle.rules.specs.Slots.{unmoved}
 use Rattle.rules.specs.Pending.{validPending}
-use Rattle.rules.specs.Facts.{ValidParts, InRange, Kept, ValidReading, ValidSlot}
+use Rattle.rules.specs.Facts.{Kept, ValidReading, ValidSlot}
 use Rattle.rules.specs.declared.Port.{Port}
 use Rattle.rules.specs.declared.Block.{Block}
 use Rattle.rules.specs.declared.Control.{Control}

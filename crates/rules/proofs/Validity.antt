@@ -1,6 +1,6 @@
 -- Validity: the tests are true exactly where the facts hold. Each test is taken apart by the laws of `&&`, `||` and `pick`.
 -- Assumes nothing.
-use Prim.Native.Nat.{ℕ, _≤_, _<_}
+use Prim.Native.Nat.{_≤_, _<_}
 use native.Mathlib.Omega.{arith}
 use mathlib.Core.Path.{_≡_, sym, _∙_}
 use mathlib.Core.Bool.{Bool, true, false}
@@ -10,7 +10,6 @@ use borrow.Author.Tests.{ltb-true, leb-true, eqb-true, eqb-false, lt-ltb, le-leb
 use Rattle.rules.specs.Choice.{every}
 use Rattle.rules.specs.Blocks.{finished}
 use Rattle.rules.specs.Slots.{unmoved}
-use Rattle.rules.specs.Pending.{validPending}
 use Rattle.rules.specs.Validity.{validPort, validReadback, restingSlot, validLength, runningSlot, validSlot, validProgress, validCore}
 use Rattle.rules.specs.Facts.{ValidParts, ValidCycle, ValidReading, Resting, SlotLength, busTime, prescaled, Running, ValidSlot, resting, running}
 use Rattle.rules.specs.declared.Port.{Port}

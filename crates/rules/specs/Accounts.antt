@@ -12,10 +12,10 @@ use Rattle.rules.specs.Validity.{total}
 use Rattle.rules.specs.Facts.{InRange}
 use Rattle.rules.specs.Clock.{Kind, busClock, heldClock, cpuClock}
 use Rattle.rules.specs.Buffers.{Store, flat}
-use Rattle.rules.specs.World.{World, System, Move, Note}
-use Rattle.rules.specs.Calls.{Answer, grant}
-use Rattle.rules.specs.Entries.{Outside, Poke, poked, flatOutside, Entry, portWrite, portRead, clockGrant, outsideChange, Answered, Run, run, systemAtPowerOn}
-use Rattle.rules.specs.History.{Event, clockNoted, counterZeroed, Past, History, history, pastAtPowerOn}
+use Rattle.rules.specs.World.{System, Move}
+use Rattle.rules.specs.Calls.{grant}
+use Rattle.rules.specs.Entries.{Outside, Poke, poked, flatOutside, Entry, portWrite, portRead, clockGrant, outsideChange, Answered, run, systemAtPowerOn}
+use Rattle.rules.specs.History.{Event, clockNoted, counterZeroed, history, pastAtPowerOn}
 
 -- ---- counting the events of a history
 

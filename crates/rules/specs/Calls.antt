@@ -1,14 +1,13 @@
 -- The calls in full: what each answers and leaves, for every device content and every argument.
 -- Assumes nothing.
 use Prim.Native.Nat.{ℕ}
-use mathlib.Core.Bool.{Bool}
 use lib.Dec.{eqb}
 use Rattle.rules.specs.Choice.{pick}
 use Rattle.rules.specs.Validity.{total}
 use Rattle.rules.specs.Registers.{written}
 use Rattle.rules.specs.Readback.{readByte}
 use Rattle.rules.specs.Buffers.{Store, Buffers}
-use Rattle.rules.specs.World.{World, System, clocked}
+use Rattle.rules.specs.World.{System, clocked}
 use Rattle.rules.specs.Refusals.{accessRefusal, grantRefusal}
 use Rattle.rules.specs.declared.Clocks.{Clocks}
 use Rattle.rules.specs.declared.Core.{Core}

@@ -1,7 +1,7 @@
 -- WR6, the commands. A byte that is none of them changes nothing.
 -- Assumes nothing.
 use Prim.Native.Nat.{ℕ}
-use mathlib.Core.Bool.{Bool, true, false}
+use mathlib.Core.Bool.{true, false}
 use lib.Dec.{eqb}
 use Rattle.rules.specs.Choice.{pick}
 use Rattle.rules.specs.Parts.{withCounter, withE, withWaiting, withPosition, withA, withB, withBlock, withStatus, withReadback, withPending, withEnabled, withSlot}

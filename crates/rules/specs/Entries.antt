@@ -5,8 +5,8 @@ use mathlib.Core.Path.{_≡_}
 use mathlib.Core.List.{List, [], _∷_}
 use lib.ListN.{length, set}
 use Rattle.rules.specs.PowerOn.{powerOn, noClocks}
-use Rattle.rules.specs.Buffers.{Store, flat, Buffers}
-use Rattle.rules.specs.World.{World, System}
+use Rattle.rules.specs.Buffers.{Store, Buffers}
+use Rattle.rules.specs.World.{System}
 use Rattle.rules.specs.Calls.{Answer, write, read, grant}
 
 -- the changes of a memory from outside: each kind of change, and what it makes of the memory

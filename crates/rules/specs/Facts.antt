@@ -1,6 +1,6 @@
 -- Validity as facts, part by part, and the ranges that the types give anyway.
 -- Assumes nothing.
-use Prim.Native.Nat.{ℕ, _%_, _≤_, _<_}
+use Prim.Native.Nat.{_%_, _≤_, _<_}
 use mathlib.Core.Path.{_≡_}
 use mathlib.Core.Bool.{Bool, true, false}
 use Rattle.rules.specs.Validity.{validPort, validReadback, validSlot, validProgress}

@@ -5,14 +5,13 @@
 use Prim.Native.Nat.{ℕ, zero, suc, _+_}
 use mathlib.Core.Bool.{Bool, false}
 use mathlib.Core.List.{List, [], _∷_}
-use mathlib.Core.Option.{Option, none, some}
 use lib.Dec.{eqb}
 use Rattle.rules.specs.Choice.{pick, any}
 use Rattle.rules.specs.PowerOn.{powerOn}
 use Rattle.rules.specs.Pending.{isPending}
 use Rattle.rules.specs.Registers.{written}
 use Rattle.rules.specs.Readback.{readByte}
-use Rattle.rules.specs.Buffers.{Store, Buffers}
+use Rattle.rules.specs.Buffers.{Store}
 use Rattle.rules.specs.World.{World, Note, step, note}
 use Rattle.rules.specs.Refusals.{accessRefusal, grantRefusal}
 use Rattle.rules.specs.Entries.{Outside, Entry, portWrite, portRead, clockGrant, outsideChange, borrowedBuffers}

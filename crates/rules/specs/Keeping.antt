@@ -7,9 +7,9 @@ use Rattle.rules.specs.Validity.{total, most64}
 use Rattle.rules.specs.Facts.{Kept}
 use Rattle.rules.specs.Clock.{clockOf}
 use Rattle.rules.specs.Buffers.{Store}
-use Rattle.rules.specs.World.{World, System}
+use Rattle.rules.specs.World.{System}
 use Rattle.rules.specs.Refusals.{accessRefusal}
-use Rattle.rules.specs.Calls.{Reply, Answer, refused, writeReply, readReply, grantNumber, grant}
+use Rattle.rules.specs.Calls.{refused, writeReply, readReply, grantNumber, grant}
 use Rattle.rules.specs.declared.Clocks.{Clocks}
 use Rattle.rules.specs.declared.Core.{Core}
 

@@ -1,13 +1,12 @@
 -- Reading back: seven registers, status, counter low and high, A low and high, B low and high.
 -- Assumes nothing.
 use Prim.Native.Nat.{ℕ, zero, suc, _+_}
-use mathlib.Core.Bool.{Bool, false}
+use mathlib.Core.Bool.{false}
 use lib.Dec.{ltb, eqb}
 use Rattle.rules.specs.Choice.{pick}
 use Rattle.rules.specs.Bytes.{bit, lowByte, highByte}
 use Rattle.rules.specs.Parts.{withPosition, withWaiting, withReadback}
 use Rattle.rules.specs.declared.Status.{Status}
-use Rattle.rules.specs.declared.Readback.{Readback}
 use Rattle.rules.specs.declared.Core.{Core}
 
 -- the status byte, 00E1101T

@@ -15,8 +15,8 @@ use Rattle.rules.specs.Readback.{statusByte}
 use Rattle.rules.specs.Parts.{withCounter, withT, withBlock, withStatus}
 use Rattle.rules.specs.Blocks.{blockCount}
 use Rattle.rules.specs.Clock.{stopped}
-use Rattle.rules.specs.Buffers.{Buffers, flat}
-use Rattle.rules.specs.World.{World, System, Move, note}
+use Rattle.rules.specs.Buffers.{flat}
+use Rattle.rules.specs.World.{System, Move, note}
 use Rattle.rules.specs.Calls.{Answer, write, read, grant}
 use Rattle.rules.specs.declared.Core.{Core}
 
@@ -34,7 +34,8 @@ pub data Action : Type 0 where
   expectRefused : ℕ → ℕ → Action
   -- a grant of this many clocks is accepted
   clocks : ℕ → Action
-  -- a grant that lends a memory and latches of these lengths, and asks for this many clocks, is answered with this number
+  -- a grant that borrows a memory and latches of these lengths, and asks for this many clocks, is answered with this
+  -- number
   borrow : ℕ → ℕ → ℕ → ℕ → Action
   -- the clock counts are these: bus, held, processor
   counts : ℕ → ℕ → ℕ → Action

@@ -1,6 +1,5 @@
 -- The transfer slot (document 01: slot): waiting in it, and who has the bus.
 -- Assumes nothing.
-use Prim.Native.Nat.{ℕ}
 use mathlib.Core.Bool.{Bool, false, not}
 use mathlib.Core.List.{[], _∷_}
 use lib.Dec.{leb, ltb, eqb}

@@ -486,8 +486,8 @@ table =
     ∷ clocks 24
     ∷ counts 76 240 0
     ∷ [])
-    -- WR3, WR4 and ignored bytes: C0 enables and 80 disables; WR4 of 11 and 00 is continuous; other commands change nothing
-    ∷ row "WR3, WR4 and ignored bytes"
+    -- WR3 and WR4: bit 6 of WR3 enables or disables whatever its other bits are; WR4 of 11 and of 00 is continuous
+    ∷ row "WR3 and WR4"
     (send 0x6B (program 0x1000 1 (0x22 ∷ 0x01 ∷ []) 0xED 0x2000 0x82)
     ∷ sendRefused 0x6B 0x83 3
     ∷ clocks 4

@@ -4,7 +4,7 @@ use Prim.Native.Nat.{ℕ, zero, suc}
 use mathlib.Core.Bool.{Bool}
 use mathlib.Core.Option.{Option, none, some}
 use Rattle.rules.specs.Choice.{pick}
-use Rattle.rules.specs.Clock.{Kind, Clock, clockOf, counted}
+use Rattle.rules.specs.Clock.{Kind, clockOf, counted}
 use Rattle.rules.specs.Buffers.{Store, Buffers, source, destination, byteAt, transfer}
 use Rattle.rules.specs.declared.Place.{Place}
 use Rattle.rules.specs.declared.Clocks.{Clocks}

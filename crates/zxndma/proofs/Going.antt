@@ -1,6 +1,6 @@
 -- The clocks of a grant on the way: what has been spent so far is as many clocks of the definition, and the rest has room.
 -- Assumes nothing.
-use Prim.Native.Nat.{ℕ, _+_, _-_, _≤_, _<_}
+use Prim.Native.Nat.{ℕ, _+_, _-_, _≤_}
 use native.Mathlib.Omega.{arith}
 use mathlib.Core.Path.{_≡_, refl, sym, _∙_, ap}
 use mathlib.Core.Bool.{Bool, true}
@@ -9,7 +9,7 @@ use lib.ListN.{length, length-set}
 use Rattle.rules.specs.Validity.{validCore, total, most64}
 use Rattle.rules.specs.Facts.{InRange, Kept}
 use Rattle.rules.specs.Buffers.{Buffers, flat, put}
-use Rattle.rules.specs.World.{World, System, clocked}
+use Rattle.rules.specs.World.{System, clocked}
 use Rattle.rules.specs.Spans.{countedBy, buffersBetween, IsSpan}
 use Rattle.rules.specs.Refusals.{grantRefusal}
 use Rattle.rules.specs.declared.Place.{Place}

@@ -3,7 +3,7 @@
 use Prim.Native.Nat.{ℕ}
 use mathlib.Core.List.{List}
 use Rattle.rules.specs.PowerOn.{powerOn, noClocks}
-use Rattle.rules.specs.World.{World, System}
+use Rattle.rules.specs.World.{System}
 use Rattle.rules.specs.Calls.{Reply, Answer}
 use Rattle.zxndma.specs.declared.Device.{Device}
 use Rattle.zxndma.specs.declared.WriteAnswer.{WriteAnswer}
