@@ -379,6 +379,10 @@ table =
     ∷ counts 4 0 28
     ∷ counter 1
     ∷ expect 0x0F6B (0x1B ∷ 0x01 ∷ [])
+    ∷ send 0x6B (0x65 ∷ 0x01 ∷ 0x00 ∷ 0xD3 ∷ 0x87 ∷ [])
+    ∷ clocks 32
+    ∷ enabled true
+    ∷ counter 0
     ∷ [])
     -- writes to I/O: the latch at the port's address is set, also the device's own, and nothing else
     ∷ row "writes to I/O"
@@ -783,6 +787,31 @@ table =
     ∷ changed (λ c. withBlock (withCounter 3 (c .block)) c) false
     ∷ changed (λ c. withBlock (withCounter 3 (c .block)) (inSlot 3 4 32 false c)) false
     ∷ changed (λ c. withBlock (withCounter 3 (c .block)) (inSlot 4 4 32 false c)) true
+    ∷ [])
+    -- auto restart turned off in a wait: the block ends
+    ∷ row "auto restart turned off"
+    (send 0x6B (program 0x1000 1 (0x22 ∷ 0x01 ∷ []) 0xCD 0x2000 0xA2)
+    ∷ clocks 10
+    ∷ send 0x6B (0x82 ∷ [])
+    ∷ clocks 21
+    ∷ enabled true
+    ∷ clocks 1
+    ∷ enabled false
+    ∷ counter 1
+    ∷ expect 0x136B (0x1B ∷ 0x01 ∷ [])
+    ∷ [])
+    -- registers in another order: WR4 before WR0, a high address, and a read position that a block leaves
+    ∷ row "registers in another order"
+    (expect 0x6B (0x3A ∷ 0x00 ∷ [])
+    ∷ send 0x6B (0x83 ∷ 0xAD ∷ 0x00 ∷ 0xA0 ∷ 0x54 ∷ 0x02 ∷ 0x50 ∷ 0x22 ∷ 0x01 ∷ 0x7D ∷ 0x00 ∷ 0x10 ∷ 0x01 ∷ 0x00 ∷ 0x82 ∷ 0xCF ∷ 0x87 ∷ [])
+    ∷ clocks 31
+    ∷ enabled true
+    ∷ clocks 1
+    ∷ enabled false
+    ∷ counts 4 28 0
+    ∷ memory 0xA000 (0xA1 ∷ 0x00 ∷ [])
+    ∷ pointers 0x1001 0xA001
+    ∷ expect 0x146B (0x00 ∷ 0x01 ∷ 0x10 ∷ 0x01 ∷ 0xA0 ∷ [])
     ∷ [])
     ∷ []
 
