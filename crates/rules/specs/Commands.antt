@@ -62,14 +62,15 @@ restartReading c = withReadback (withPosition 0 (c .readback)) c
 abbrev pub askStatus : Core → Core
 askStatus c = withReadback (withWaiting true (c .readback)) c
 
--- the commands on the status and on reading
+-- the commands on the status and on reading: 8B is E 1 and T 0, and after BB the read mask is pending
 unfoldable pub readingCommand : ℕ → Core → Core
 readingCommand byte c =
     pick (eqb byte 0x8B) (withStatus statusAtReset c)
     (pick (eqb byte 0xBF) (askStatus c)
     (pick (eqb byte 0xA7) (restartReading c) (pick (eqb byte 0xBB) (withPending maskAsked c) c)))
 
--- all commands; one that is not listed, and B3, changes nothing
+-- all commands: C7 and CB put the cycle of A, or of B, to 4 and leave the prescaler (ours); one that is not listed, and B3,
+-- changes nothing
 unfoldable pub command : ℕ → Core → Core
 command byte c =
     pick (eqb byte 0xC3) (reset c)

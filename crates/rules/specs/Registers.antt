@@ -12,7 +12,7 @@ use Rattle.rules.specs.Pending.{aLow, aHigh, lengthLow, lengthHigh, aTim
 use Rattle.rules.specs.Commands.{enable, disable, command}
 use Rattle.rules.specs.declared.Core.{Core}
 
--- 0xxxxxAA with AA not 00: bit 2 set is A to B, clear is B to A
+-- 0xxxxxAA with AA not 00: bit 2 set is A to B, clear is B to A; AA of 01, 10 and 11 all transfer
 abbrev pub isWR0 : ℕ → Bool
 isWR0 byte = every (ltb byte 128 ∷ not (eqb (byte % 4) 0) ∷ [])
 
@@ -78,7 +78,7 @@ abbrev pub masked : ℕ → Core → Core
 masked byte c =
     withReadback (record { mask = byte % 128; position = 0; waiting = c .readback .waiting }) c
 
--- the parameter with this code takes effect; each leaves the other byte of its number as it was
+-- the parameter with this code takes effect; each leaves the other byte of its number as it was. The last is the read mask
 unfoldable pub parameter : ℕ → ℕ → Core → Core
 parameter code byte c =
     pick (eqb code aLow) (withA (addressedLow byte (c .a)) c)

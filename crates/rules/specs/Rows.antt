@@ -79,6 +79,7 @@ pub record Seen : Type 0 where
 abbrev pub seen : Bool → System (List ℕ) → Seen
 seen t s = record { right = t; system = s }
 
+-- the second list begins with the first
 unfoldable pub same : List ℕ → List ℕ → Bool
 same [] ys = true
 same (x ∷ xs) [] = false

@@ -138,6 +138,7 @@ table =
     ∷ counts 0 0 10
     ∷ memory 0x2000 (0xE1 ∷ 0xE2 ∷ 0xE3 ∷ 0xE4 ∷ 0xE5 ∷ 0xE6 ∷ [])
     ∷ counter 0
+    ∷ expect 0x6B (0x1A ∷ 0x00 ∷ 0x00 ∷ 0x00 ∷ 0x10 ∷ 0x00 ∷ 0x20 ∷ [])
     ∷ [])
     -- P7: a length of 0 in Zilog mode: one byte
     ∷ row "P7"
@@ -254,7 +255,7 @@ table =
     ∷ memory 0x2000 (0xA1 ∷ 0xE2 ∷ [])
     ∷ expect 0x0B6B (0x1B ∷ 0x01 ∷ 0x00 ∷ 0x01 ∷ 0x10 ∷ 0x01 ∷ 0x20 ∷ [])
     ∷ [])
-    -- mode in a wait: WR4 in a wait: the slot stays burst, the next is continuous
+    -- mode in a wait: after WR4 the slot stays burst, and the next is continuous
     ∷ row "mode in a wait"
     (send 0x6B (program 0x1000 2 (0x22 ∷ 0x01 ∷ []) 0xCD 0x2000 0x82)
     ∷ clocks 10
