@@ -1,7 +1,7 @@
 -- The two borrowed buffers (document 01: lent), memory and I/O latches, and a byte that moves between two places in them.
 -- The memory is a parameter: whatever can load and store a byte at an address and say when a grant must refuse it.
 -- Assumes nothing.
-use Prim.Native.Nat.{ℕ}
+use Prim.Native.Nat.{ℕ, _+_}
 use mathlib.Core.Bool.{not}
 use mathlib.Core.List.{List, [], _∷_}
 use lib.Dec.{eqb}
@@ -10,6 +10,11 @@ use Rattle.rules.specs.Choice.{pick, test, firstHit}
 use Rattle.rules.specs.declared.Port.{Port}
 use Rattle.rules.specs.declared.Place.{Place}
 use Rattle.rules.specs.declared.Core.{Core}
+
+-- the list with these bytes from this place on; the rest, and the length, as they were
+unfoldable pub placed : ℕ → List ℕ → List ℕ → List ℕ
+placed at [] l = l
+placed at (x ∷ xs) l = placed (at + 1) xs (set l at x)
 
 -- a kind of memory: the byte at an address, the memory with a byte stored at one, and the number with which a grant refuses
 -- the memory, 0 where it does not

@@ -10,13 +10,13 @@ use Rattle.rules.specs.Commands.{enable, readingCommand, command}
 use Rattle.rules.specs.Registers.{wr3, register, parameter, effect}
 use Rattle.rules.specs.Readback.{statusByte, registerByte, after, seek, readByte}
 use Rattle.rules.specs.Clock.{slotLength, movedAt, kindAt, slotEnd, clockEnd, slotClock, firstClock, clockOf}
-use Rattle.rules.specs.Buffers.{source, destination, byteAt, put}
+use Rattle.rules.specs.Buffers.{placed, source, destination, byteAt, put}
 use Rattle.rules.specs.World.{buffersAfter, clocked}
 use Rattle.rules.specs.Refusals.{accessRefusal, grantRefusal}
 use Rattle.rules.specs.Calls.{writeReply, readReply, grant}
 use Rattle.rules.specs.Entries.{poked, run}
 use Rattle.rules.specs.History.{zeroing, writePassed, unlessRefused, clocksPassed, history}
-use Rattle.rules.specs.Rows.{same, placed, sendAll, expectAll, movesSo, perform, played, rowFailures, failures}
+use Rattle.rules.specs.Rows.{same, sendAll, expectAll, movesSo, perform, played, rowFailures, failures}
 
 unfoldable pub opened : Unit {0}
 unfolding pick every any firstHit cycleOf stepped blockCount finished waiting busHeld unmoved ask follows validPending validPort validReadback restingSlot validLength runningSlot validSlot validProgress validCore valid enable readingCommand command wr3 register parameter effect statusByte registerByte after seek readByte slotLength movedAt kindAt slotEnd clockEnd slotClock firstClock clockOf source destination byteAt put buffersAfter clocked accessRefusal grantRefusal writeReply readReply grant poked run zeroing writePassed unlessRefused clocksPassed history same placed sendAll expectAll movesSo perform played rowFailures failures

@@ -7,7 +7,7 @@ use mathlib.Core.Bool.{Bool, true, false, Bool·beq}
 use mathlib.Core.Option.{Option, none, some}
 use mathlib.Core.List.{List, [], _∷_, _++_}
 use lib.Dec.{eqb}
-use lib.ListN.{drop, set, replicate}
+use lib.ListN.{drop, replicate}
 use Rattle.rules.specs.Choice.{pick, every}
 use Rattle.rules.specs.PowerOn.{powerOn, noClocks}
 use Rattle.rules.specs.Validity.{valid, total}
@@ -15,7 +15,7 @@ use Rattle.rules.specs.Readback.{statusByte}
 use Rattle.rules.specs.Parts.{withCounter, withT, withBlock, withStatus}
 use Rattle.rules.specs.Blocks.{blockCount}
 use Rattle.rules.specs.Clock.{stopped}
-use Rattle.rules.specs.Buffers.{flat}
+use Rattle.rules.specs.Buffers.{placed, flat}
 use Rattle.rules.specs.World.{System, Move, note}
 use Rattle.rules.specs.Calls.{Answer, write, read, grant}
 use Rattle.rules.specs.declared.Core.{Core}
@@ -91,11 +91,6 @@ withBuffers m l s =
 
 abbrev pub withCore : Core → System (List ℕ) → System (List ℕ)
 withCore c s = record { world = record { core = c; buffers = s .world .buffers }; clocks = s .clocks }
-
--- the list with these bytes from this place on
-unfoldable pub placed : ℕ → List ℕ → List ℕ → List ℕ
-placed at [] l = l
-placed at (x ∷ xs) l = set (placed (suc at) xs l) at x
 
 -- an answer with this number and this byte is right, if all was right before it
 abbrev pub answered : ℕ → ℕ → Seen → Answer (List ℕ) → Seen

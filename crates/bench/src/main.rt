@@ -1,0 +1,206 @@
+// The bench program: a session from standard input, its lines to standard output. All it knows of sessions is the library's
+// step; it holds the memory and the latches, reads and writes.
+ghost use Prim.Native.Nat.{_+_, _≤_};
+ghost use lib.ListN.{length};
+use libc::STDIN_FILENO;
+use libc::STDOUT_FILENO;
+use session::step;
+use session::step::Session;
+use session::step::Step;
+
+// Where the program is.
+struct State {
+    session: Session,
+    // The bytes at hand lie in the input buffer up to `have`, and those up to `at` are done.
+    at: usize,
+    have: usize,
+    // No more bytes come.
+    ended: bool,
+    // All is done, or cannot go on.
+    stopped: bool,
+}
+
+// Where it is when the bytes at hand are worked through, and the number of the last step.
+struct Worked {
+    session: Session,
+    at: usize,
+    filled: usize,
+    number: u8,
+}
+
+// Writes the lines that have gathered, and answers whether it could.
+fn flush(output: &[u8], filled: usize) -> bool
+    requires { ⌜ filled ≤ length (now output) ⌝ }
+{
+    let is_written = io::write_all(STDOUT_FILENO, &output[0..filled]);
+    if !is_written {
+        os::fail(b"bench: cannot write the lines");
+    }
+    is_written
+}
+
+// Moves the bytes from `at` up to `have` to the front of the buffer, and answers how many there are.
+fn keep(input: &mut [u8], at: usize, have: usize) -> usize
+    requires { ⌜ have ≤ length (now input) ⌝ }
+    ensures { λ r. ⌜ r ≤ length (now (input .entry)) ⌝ }
+{
+    let mut kept = 0;
+    let mut from = at;
+    while from < have {
+        input[kept] = input[from];
+        kept += 1;
+        from += 1;
+    }
+    kept
+}
+
+// One step; its line goes behind those that have gathered.
+fn one_step(
+    session: Session,
+    input: &[u8],
+    have: usize,
+    at: usize,
+    ended: bool,
+    output: &mut [u8],
+    filled: usize,
+    memory: &mut [u8],
+    latches: &mut [u8],
+) -> Step
+    requires { ⌜ (have ≤ length (now input)) × (filled ≤ length (now output)) ⌝ }
+    ensures { λ r. ⌜ filled + r .length ≤ length (now (output .entry)) ⌝ }
+{
+    session.step(
+        &input[0..have],
+        at,
+        ended,
+        &mut output[filled..],
+        memory,
+        latches,
+    )
+}
+
+// Steps through the bytes at hand until more are needed, the output buffer is full or the session is over. A proved loop has
+// to end, so it counts its turns down from a number that no run uses up.
+fn work(
+    state: State,
+    input: &[u8],
+    output: &mut [u8],
+    memory: &mut [u8],
+    latches: &mut [u8],
+) -> Worked
+    requires { ⌜ state .have ≤ length (now input) ⌝ }
+    ensures { λ r. ⌜ r .filled ≤ length (now (output .entry)) ⌝ }
+{
+    let have = state.have;
+    let ended = state.ended;
+    let mut session = state.session;
+    let mut at = state.at;
+    let mut filled = 0;
+    let mut number = step::GOES_ON;
+    let mut turns = u64::MAX;
+    while 0 < turns && number == step::GOES_ON {
+        let done = one_step(
+            session,
+            input,
+            have,
+            at,
+            ended,
+            output,
+            filled,
+            memory,
+            latches,
+        );
+        session = done.session;
+        at = done.next;
+        filled += done.length;
+        number = done.number;
+        turns -= 1;
+    }
+    Worked {
+        session,
+        at,
+        filled,
+        number,
+    }
+}
+
+// Reads more bytes behind those that are not done yet. No byte means that the input has ended.
+fn refill(state: State, input: &mut [u8]) -> State
+    requires { ⌜ state .have ≤ length (now input) ⌝ }
+    ensures { λ r. ⌜ r .have ≤ length (now (input .entry)) ⌝ }
+{
+    let kept = keep(input, state.at, state.have);
+    let got = libc::read(STDIN_FILENO, &mut input[kept..]);
+    let more = io::count(got, &input[kept..]);
+    let mut next = state;
+    next.at = 0;
+    next.have = kept + more;
+    if got < 0 {
+        os::fail(b"bench: cannot read the session");
+        next.stopped = true;
+        return next;
+    }
+    if got == 0 {
+        next.ended = true;
+        return next;
+    }
+    next
+}
+
+// Works through the bytes at hand, writes the lines, and reads more bytes where they are needed.
+fn turn(
+    state: State,
+    input: &mut [u8],
+    output: &mut [u8],
+    memory: &mut [u8],
+    latches: &mut [u8],
+) -> State
+    requires { ⌜ state .have ≤ length (now input) ⌝ }
+    ensures { λ r. ⌜ r .have ≤ length (now (input .entry)) ⌝ }
+{
+    let worked = work(state, input, output, memory, latches);
+    let is_written = flush(output, worked.filled);
+    let session = worked.session;
+    let mut next = state;
+    next.session = session;
+    next.at = worked.at;
+    if !is_written {
+        next.stopped = true;
+        return next;
+    }
+    if worked.number == step::IS_OVER {
+        next.stopped = true;
+        return next;
+    }
+    if worked.number == step::WAITS {
+        return refill(next, input);
+    }
+    next
+}
+
+// A session from its first byte to its last line.
+fn run(memory: &mut [u8], latches: &mut [u8]) {
+    let mut input = [0u8; 65536];
+    let mut output = [0u8; 65536];
+    let bytes: &mut [u8] = &mut input;
+    let lines: &mut [u8] = &mut output;
+    let session = Session::start();
+    let mut state = State {
+        session,
+        at: 0,
+        have: 0,
+        ended: false,
+        stopped: false,
+    };
+    let mut turns = u64::MAX;
+    while 0 < turns && !state.stopped {
+        state = turn(state, bytes, lines, memory, latches);
+        turns -= 1;
+    }
+}
+
+fn main() {
+    let mut memory = [0; 65536];
+    let mut latches = [0; 65536];
+    run(&mut memory, &mut latches);
+}

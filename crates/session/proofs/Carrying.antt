@@ -1,0 +1,71 @@
+-- A record that is carried out, kind by kind.
+-- Assumes nothing.
+use Prim.Native.Nat.{ℕ, _-_}
+use mathlib.Core.Path.{_≡_, refl, sym, ap, _∙_}
+use mathlib.Core.List.{List}
+use borrow.Author.Tests.{eq-eqb, ne-eqb}
+use lib.Dec.{eqb}
+use Rattle.rules.specs.Buffers.{flat}
+use Rattle.rules.specs.Calls.{Answer, Reply, writeReply, readReply, grant}
+use Rattle.rules.specs.Entries.{Poke, poked, flatOutside, ownMemory, ownLatches, Entry, portWrite, portRead, clockGrant, outsideChange, enter}
+use Rattle.rules.specs.Choice.{pick}
+use Rattle.rules.specs.declared.Clocks.{Clocks}
+use Rattle.rules.specs.declared.Core.{Core}
+use Rattle.rules.proofs.Choice.{pick-both}
+use Rattle.zxndma.specs.Answers.{systemOf, writeAnswer, readAnswer, grantAnswer}
+use Rattle.zxndma.specs.declared.Device.{Device}
+use Rattle.zxndma.specs.declared.WriteAnswer.{WriteAnswer}
+use Rattle.zxndma.specs.declared.ReadAnswer.{ReadAnswer}
+use Rattle.zxndma.specs.declared.GrantAnswer.{GrantAnswer}
+use Rattle.session.specs.Effects.{pokes, entryOf, effect}
+use Rattle.session.specs.declared.parse.Record.{Record}
+
+-- a write gives no byte
+write-byte : (c : Core) (k : Clocks) (port byte : ℕ) → writeReply c k port byte .byte ≡ 0
+unfolding writeReply
+write-byte c k port byte = pick-both (λ (r : Reply). r .byte ≡ 0) _ _ _ refl refl
+
+module _ (xs : List ℕ) (r : Record) where
+  entry-write : r .number ≡ 1 → portWrite (r .word) (r .byte) ≡ entryOf xs r
+  unfolding entryOf pick
+  entry-write e = simp (eq-eqb _ _ e)
+
+  entry-read : (r .number ≡ 1 → ⊥) → r .number ≡ 2 → portRead (r .word) ≡ entryOf xs r
+  unfolding entryOf pick
+  entry-read n e = simp (ne-eqb _ _ n, eq-eqb _ _ e)
+
+  entry-grant : (r .number ≡ 1 → ⊥) → (r .number ≡ 2 → ⊥) → r .number ≡ 3 → clockGrant (r .clocks) ownMemory ownLatches ≡ entryOf xs r
+  unfolding entryOf pick
+  entry-grant n o e = simp (ne-eqb _ _ n, ne-eqb _ _ o, eq-eqb _ _ e)
+
+  entry-memory : (r .number ≡ 1 → ⊥) → (r .number ≡ 2 → ⊥) → (r .number ≡ 3 → ⊥) → outsideChange (pokes (r .next - r .start) xs (r .start) (r .word)) ≡ entryOf xs r
+  unfolding entryOf pick
+  entry-memory n o p = simp (ne-eqb _ _ n, ne-eqb _ _ o, ne-eqb _ _ p)
+
+  module _ (d : Device) (m l : List ℕ) where
+    -- an entry's effect on the device and the two buffers
+    on : Entry flat (List Poke) → Answer (List ℕ)
+    on e = enter flat flatOutside e (systemOf d m l)
+
+    pub carried-write : (a : WriteAnswer) → r .number ≡ 1 → a ≡ writeAnswer (writeReply (d .core) (d .clocks) (r .word) (r .byte)) → _≡_ {A = Answer (List ℕ)} (record { number = a .number; byte = 0; system = systemOf (a .device) m l }) (effect xs r (systemOf d m l))
+    unfolding on
+    carried-write a e h =
+        (λ i. record {
+          number = h i .number;
+          byte = sym (write-byte (d .core) (d .clocks) (r .word) (r .byte)) i;
+          system = systemOf (h i .device) m l;
+        })
+        ∙ ap on (entry-write e)
+
+    pub carried-read : (a : ReadAnswer) → (r .number ≡ 1 → ⊥) → r .number ≡ 2 → a ≡ readAnswer (readReply (d .core) (d .clocks) (r .word)) → _≡_ {A = Answer (List ℕ)} (record { number = a .number; byte = a .byte; system = systemOf (a .device) m l }) (effect xs r (systemOf d m l))
+    unfolding on
+    carried-read a n e h =
+        (λ i. record { number = h i .number; byte = h i .byte; system = systemOf (h i .device) m l }) ∙ ap on (entry-read n e)
+
+    pub carried-grant : (a : GrantAnswer) (m′ l′ : List ℕ) → (r .number ≡ 1 → ⊥) → (r .number ≡ 2 → ⊥) → r .number ≡ 3 → grantAnswer a m′ l′ ≡ grant flat (systemOf d m l) (r .clocks) → grantAnswer a m′ l′ ≡ effect xs r (systemOf d m l)
+    unfolding on
+    carried-grant a m′ l′ n o e h = h ∙ ap on (entry-grant n o e)
+
+    pub carried-memory : (m′ : List ℕ) → (r .number ≡ 1 → ⊥) → (r .number ≡ 2 → ⊥) → (r .number ≡ 3 → ⊥) → m′ ≡ poked (pokes (r .next - r .start) xs (r .start) (r .word)) m → _≡_ {A = Answer (List ℕ)} (record { number = 0; byte = 0; system = systemOf d m′ l }) (effect xs r (systemOf d m l))
+    unfolding on
+    carried-memory m′ n o p h = (λ i. record { number = 0; byte = 0; system = systemOf d (h i) l }) ∙ ap on (entry-memory n o p)

@@ -1,0 +1,5 @@
+pub mod Putting
+pub mod Poking
+pub mod Carrying
+pub mod Saying
+pub mod Room

@@ -1,0 +1,80 @@
+-- Every line has room in 72 bytes.
+-- Assumes nothing.
+use Prim.Native.Nat.{ℕ, _+_, _≤_}
+use native.Mathlib.Omega.{arith}
+use mathlib.Core.Path.{_≡_, ap, subst, sym}
+use mathlib.Core.Bool.{Bool}
+use mathlib.Core.List.{List, [], _∷_}
+use borrow.Author.Tests.{ltb-false}
+use lib.Dec.{eqb, ltb}
+use lib.ListN.{length, length-append}
+use Rattle.rules.specs.Buffers.{Buffers}
+use Rattle.rules.specs.declared.Clocks.{Clocks}
+use Rattle.rules.proofs.Choice.{pick-both, pick-cases}
+use Rattle.session.specs.Lines.{decimal, numberLine, readLine, recordLine, countsLine}
+use Rattle.session.specs.Records.{recordAt}
+use Rattle.session.specs.Steps.{Said, Outcome, versionStep, longStep, byRecord, recordStep, stepOf, outcome}
+use Rattle.session.specs.declared.parse.Record.{Record}
+use Rattle.session.specs.declared.step.Session.{Session}
+use Rattle.session.specs.declared.step.Step.{Step}
+use Rattle.session.proofs.Putting.{decimal-most}
+
+number-room : (letter n : ℕ) → length (numberLine letter n) ≤ 72
+number-room letter n = omega (arith, length-append (decimal n) (10 ∷ []), decimal-most 20 n)
+
+record-room : (kind number byte : ℕ) → length (recordLine kind number byte) ≤ 72
+unfolding recordLine readLine
+record-room kind number byte =
+    pick-both (λ (xs : List ℕ). length xs ≤ 72) (eqb kind 1) _ _ (number-room 87 number)
+    (pick-both (λ (xs : List ℕ). length xs ≤ 72) (eqb kind 2) _ _
+    (pick-both (λ (xs : List ℕ). length xs ≤ 72) (eqb number 0) _ _ (omega arith) (number-room 82 number))
+    (pick-both (λ (xs : List ℕ). length xs ≤ 72) (eqb kind 3) _ _ (number-room 71 number) (number-room 77 number)))
+
+counts-room : (k : Clocks) → length (countsLine k) ≤ 72
+counts-room k =
+    simp length-append (omega (arith, decimal-most 20 (k .bus), decimal-most 20 (k .held), decimal-most 20 (k .cpu)))
+
+-- a line that fits
+Fits : Said → Type 0
+Fits x = x .step .length ≤ 72
+
+fits-version : (s : Session) (xs : List ℕ) (p : ℕ) (ended : Bool) (out : List ℕ) → Fits (versionStep s xs p ended out)
+unfolding versionStep Fits
+fits-version s xs p ended out =
+    pick-both Fits _ _ _
+    (pick-both Fits ended _ _ (number-room 83 20) (omega arith))
+    (pick-both Fits _ _ _ (omega arith) (number-room 83 20))
+
+fits-long : (s : Session) (xs : List ℕ) (p : ℕ) (ended : Bool) (out : List ℕ) → Fits (longStep s xs p ended out)
+unfolding longStep Fits
+fits-long s xs p ended out =
+    pick-both Fits _ _ _ (number-room 83 22) (pick-both Fits ended _ _ (number-room 83 21) (omega arith))
+
+fits-record : (r : Record) (s : Session) (xs out : List ℕ) (b : Buffers (List ℕ)) → Fits (byRecord r s xs out b .said)
+unfolding byRecord Fits
+fits-record r s xs out b =
+    pick-both (λ (o : Outcome). Fits (o .said)) _ _ _ (omega arith)
+    (pick-both (λ (o : Outcome). Fits (o .said)) _ _ _ (counts-room (s .device .clocks))
+    (pick-both (λ (o : Outcome). Fits (o .said)) _ _ _ (number-room 83 (r .number)) (record-room (r .number) _ _)))
+
+module _ (s : Session) (xs : List ℕ) (p : ℕ) (ended : Bool) (out : List ℕ) (b : Buffers (List ℕ)) where
+  step-fits : stepOf s xs p ended out b .said .step .length ≤ length out
+  unfolding stepOf recordStep Fits
+  step-fits =
+      pick-cases (λ (o : Outcome). o .said .step .length ≤ length out) (ltb (length out) 72) _ _ (λ e. omega arith)
+      (λ e. let
+      room : 72 ≤ length out = ltb-false (length out) 72 e
+      in
+      pick-both (λ (o : Outcome). o .said .step .length ≤ length out) _ _ _
+      (omega (arith, fits-version s xs p ended out))
+      (pick-both (λ (o : Outcome). o .said .step .length ≤ length out) _ _ _
+      (pick-both (λ (o : Outcome). o .said .step .length ≤ length out) _ _ _
+      (omega (arith, fits-record (recordAt xs p ended) s xs out b))
+      (omega arith))
+      (pick-both (λ (o : Outcome). o .said .step .length ≤ length out) _ _ _
+      (omega (arith, fits-long s xs p ended out))
+      (omega arith))))
+
+  -- a step's answer, and the room for its line
+  pub with-room : {r : Step} {o m l : List ℕ} → outcome r o m l ≡ stepOf s xs p ended out b → (outcome r o m l ≡ stepOf s xs p ended out b) × (r .length ≤ length out)
+  with-room e = (e, subst (λ (x : Outcome). x .said .step .length ≤ length out) (sym e) step-fits)

@@ -1,0 +1,37 @@
+-- A step that writes a line.
+-- Assumes nothing.
+use Prim.Native.Nat.{ℕ, _+_, _≤_}
+use native.Mathlib.Omega.{arith}
+use mathlib.Core.Path.{_≡_, refl, ap, _∙_}
+use mathlib.Core.List.{List}
+use borrow.Author.Tests.{leb-false}
+use lib.Dec.{leb, ltb}
+use lib.ListN.{length}
+use Rattle.rules.specs.Calls.{Answer}
+use Rattle.rules.proofs.Choice.{pick-cases}
+use Rattle.session.specs.Records.{longLength, word}
+use Rattle.session.specs.Lines.{Put, recordLine}
+use Rattle.session.specs.Effects.{effectAnswer}
+use Rattle.session.specs.Steps.{Said, Outcome, inPhase, spoken, said, outcome, carried}
+use Rattle.session.specs.declared.parse.Record.{Record}
+use Rattle.session.specs.declared.effect.Effect.{Effect}
+use Rattle.session.specs.declared.step.Session.{Session}
+
+module _ {out out′ bytes : List ℕ} {n : ℕ} {s s′ : Session} where
+  pub spoken-put : (number fault next : ℕ) → Put out 0 bytes out′ n → s ≡ s′ → said (record { number = number; fault = fault; next = next; length = n; session = s }) out′ ≡ spoken number fault next bytes s′ out
+  spoken-put number fault next p e =
+      let z : n ≡ length bytes = omega (arith, p .place) in
+      λ i. record { step = record { number = number; fault = fault; next = next; length = z i; session = e i }; line = p .list i }
+
+pub carried-put : (r : Record) {out out′ m l : List ℕ} {n : ℕ} {s : Session} {a : Answer (List ℕ)} (e : Effect) → effectAnswer e m l ≡ a → Put out 0 (recordLine (r .number) (e .number) (e .byte)) out′ n → s ≡ inPhase 1 0 (e .device) → outcome (record { number = 0; fault = 0; next = r .next; length = n; session = s }) out′ m l ≡ carried r a out
+carried-put r {out} {out′} {m} {l} e h p q =
+    ap (λ (x : Said). record { said = x; buffers = record { memory = m; latches = l } }) (spoken-put 0 0 (r .next) p q)
+    ∙ ap (λ (x : Answer (List ℕ)). carried r x out) h
+
+-- a record can be too long only where its length is there
+pub long-there : (xs : List ℕ) (p : ℕ) → (longLength xs p ≡ 0 → ⊥) → p + 2 ≤ length xs
+unfolding longLength
+long-there xs p =
+    pick-cases (λ (n : ℕ). (n ≡ 0 → ⊥) → p + 2 ≤ length xs) (leb (length xs) p) _ _ (λ e f. absurd (f refl))
+    (λ e. pick-cases (λ (n : ℕ). (n ≡ 0 → ⊥) → p + 2 ≤ length xs) (leb (length xs) (p + 1)) _ _ (λ e f. absurd (f refl))
+    (λ e f. omega (arith, leb-false (length xs) (p + 1) e)))

@@ -1,0 +1,37 @@
+use Rattle.session.proofs.Saying.{carried-put}
+use borrow.Author.Needs.{needs}
+use Rattle.session.proofs.step.carry.Statement.{statement}
+use Rattle.session.proofs.step.carry.Tie as tie
+
+carry-out-requires : tie.Need-carry-out-requires
+carry-out-requires c κs = search needs
+
+put-record-line-requires : tie.Need-put-record-line-requires
+put-record-line-requires c κs = search needs
+
+in-phase-requires : tie.Need-in-phase-requires
+in-phase-requires c κs = search needs
+
+same-length : tie.Need-same-length
+same-length c = search needs
+
+same-length-2 : tie.Need-same-length-2
+same-length-2 c = search needs
+
+same-length-3 : tie.Need-same-length-3
+same-length-3 c = search needs
+
+returns : tie.Need-returns
+returns c = carried-put (c .before .before .before .before .before .before .before .before .before .before .before .before .before .before .before .before .before .args .found) (c .before .before .before .before .before .before .before .before .before .before .carry-out .result) (c .before .before .before .before .before .before .before .before .before .before .carry-out .ensures) (c .before .before .before .before .put-record-line .ensures) (c .in-phase .ensures)
+
+pub carry-spec : {M : Type 1} → statement M
+carry-spec =
+    tie.close
+    (tie.spec
+    carry-out-requires
+    put-record-line-requires
+    in-phase-requires
+    same-length
+    same-length-2
+    same-length-3
+    returns)

@@ -1,0 +1,60 @@
+use Rattle.rules.specs.Choice.{pick}
+use Rattle.session.specs.Steps.{recordStep}
+use borrow.Author.Tests.{eq-eqb, ne-eqb}
+use Rattle.session.proofs.Saying.{long-there}
+use native.Mathlib.Omega.{arith}
+use mathlib.Core.Path.{_∙_}
+use borrow.Author.Needs.{needs}
+use Rattle.session.proofs.step.record_step.Statement.{statement}
+use Rattle.session.proofs.step.record_step.Tie as tie
+
+long-length-requires : tie.Need-long-length-requires
+long-length-requires c κs = search needs
+
+record-at-requires : tie.Need-record-at-requires
+record-at-requires c κs = search needs
+
+by-record-requires : tie.Need-by-record-requires
+by-record-requires c κs = search needs
+
+same-length : tie.Need-same-length
+same-length c = search needs
+
+same-length-2 : tie.Need-same-length-2
+same-length-2 c = search needs
+
+same-length-3 : tie.Need-same-length-3
+same-length-3 c = search needs
+
+returns : tie.Need-returns
+unfolding recordStep pick
+returns c = simp (eq-eqb _ _ (c .before .before .before .before .before .before .before .before .before .before .before .if1 .taken), ← c .before .before .before .before .before .before .before .before .before .before .before .before .long-length .ensures, c .before .before .before .before .before .before .before .before .before .before .record-at .ensures, c .before .before .before .before .before .before .by-record .ensures) (search needs)
+
+in-phase-requires : tie.Need-in-phase-requires
+in-phase-requires c κs = search needs
+
+add-say-nothing : tie.Need-add-say-nothing
+add-say-nothing c = omega (arith, long-there (c .before .before .before .before .before .before .before .before .args .input .now) (c .before .before .before .before .before .before .before .before .args .place) (λ e. c .before .before .if1 .left (c .before .before .before .long-length .ensures ∙ e)))
+
+say-nothing-requires : tie.Need-say-nothing-requires
+say-nothing-requires c κs = search needs
+
+returns-2 : tie.Need-returns-2
+unfolding recordStep pick
+returns-2 c = simp (ne-eqb _ _ (c .before .before .before .if1 .left), ← c .before .before .before .before .long-length .ensures, c .before .in-phase .ensures, c .say-nothing .ensures)
+
+pub record-step-spec : {M : Type 1} → statement M
+record-step-spec =
+    tie.close
+    (tie.spec
+    long-length-requires
+    record-at-requires
+    by-record-requires
+    same-length
+    same-length-2
+    same-length-3
+    returns
+    in-phase-requires
+    add-say-nothing
+    say-nothing-requires
+    returns-2)

@@ -1,0 +1,94 @@
+// What a record does to device, memory and latches.
+ghost use mathlib.Core.Path.{_≡_};
+ghost use Prim.Native.Nat.{_-_};
+ghost use lib.ListN.{set};
+ghost use Rattle.rules.specs.Entries.{poked};
+ghost use Rattle.zxndma.specs.Answers.{systemOf};
+ghost use Rattle.session.specs.Effects.{pokes, effectAnswer};
+ghost use Rattle.session.specs.Effects.{effect as effectOf};
+use crate::parse;
+use crate::parse::Record;
+use zxndma::Device;
+
+// What a record is answered with: its number, the byte of a port read, and the device afterwards.
+pub struct Effect {
+    pub number: u8,
+    pub byte: u8,
+    pub device: Device,
+}
+
+fn index(x: u16) -> usize
+    ensures { λ r. ⌜ r ≡ x ⌝ }
+{
+    x as usize
+}
+
+// A byte is put at an address; behind the end of the memory nothing is put.
+fn store(memory: &mut [u8], address: u16, byte: u8)
+    ensures { λ r. ⌜ now (memory .exit) ≡ set (now (memory .entry)) address byte ⌝ }
+{
+    let at = index(address);
+    if at < memory.len() {
+        memory[at] = byte;
+        return;
+    }
+}
+
+// The bytes from `start` up to `end` are put into memory from an address on, which wraps.
+fn poke(input: &[u8], start: usize, end: usize, memory: &mut [u8], address: u16)
+    ensures { λ r. ⌜ now (memory .exit) ≡ poked (pokes (end - start) (now (input .entry)) start address) (now (memory .entry)) ⌝ }
+{
+    let mut at = start;
+    let mut to = address;
+    while at < end {
+        let byte = parse::byte_at(input, at);
+        store(memory, to, byte);
+        to = std::num::wrapping_add_u16(to, 1);
+        at += 1;
+    }
+}
+
+// A record is carried out.
+pub fn carry_out(
+    found: Record,
+    input: &[u8],
+    device: Device,
+    memory: &mut [u8],
+    latches: &mut [u8],
+) -> Effect
+    ensures { λ r. ⌜ effectAnswer r (now (memory .exit)) (now (latches .exit)) ≡ effectOf (now (input .entry)) found (systemOf device (now (memory .entry)) (now (latches .entry))) ⌝ }
+{
+    if found.number == 1 {
+        let answer = device.write(found.word, found.byte);
+        let after = answer.device;
+        return Effect {
+            number: answer.number,
+            byte: 0,
+            device: after,
+        };
+    }
+    if found.number == 2 {
+        let answer = device.read(found.word);
+        let after = answer.device;
+        return Effect {
+            number: answer.number,
+            byte: answer.byte,
+            device: after,
+        };
+    }
+    if found.number == 3 {
+        let answer = device.grant(memory, latches, found.clocks);
+        let after = answer.device;
+        return Effect {
+            number: answer.number,
+            byte: 0,
+            device: after,
+        };
+    }
+    poke(input, found.start, found.next, memory, found.word);
+    Effect {
+        number: 0,
+        byte: 0,
+        device,
+    }
+}
