@@ -1,0 +1,58 @@
+// The device's calls for C and for Rust. Each hands what it is given to the method that it wraps, and answers the same.
+ghost use mathlib.Core.Path.{_≡_};
+ghost use Rattle.rules.specs.Validity.{valid, total};
+ghost use Rattle.rules.specs.Buffers.{flat};
+ghost use Rattle.rules.specs.Calls.{writeReply, readReply, grant};
+ghost use Rattle.zxndma.specs.Answers.{deviceAtPowerOn, writeAnswer, readAnswer, systemOf, grantAnswer};
+use registers::refusal;
+use zxndma::Device;
+use zxndma::GrantAnswer;
+use zxndma::ReadAnswer;
+use zxndma::WriteAnswer;
+
+// A device as it is when power comes on.
+#[no_mangle]
+pub extern "C" fn zxndma_power_on() -> Device
+    ensures { λ r. ⌜ r ≡ deviceAtPowerOn ⌝ }
+{
+    Device::power_on()
+}
+
+// A byte is written to a port.
+#[no_mangle]
+pub extern "C" fn zxndma_write(device: Device, port: u16, byte: u8) -> WriteAnswer
+    ensures { λ r. ⌜ r ≡ writeAnswer (writeReply (device .core) (device .clocks) port byte) ⌝ }
+{
+    device.write(port, byte)
+}
+
+// A byte is read from a port.
+#[no_mangle]
+pub extern "C" fn zxndma_read(device: Device, port: u16) -> ReadAnswer
+    ensures { λ r. ⌜ r ≡ readAnswer (readReply (device .core) (device .clocks) port) ⌝ }
+{
+    device.read(port)
+}
+
+// That many clocks pass.
+#[no_mangle]
+pub extern "C" fn zxndma_grant(
+    device: Device,
+    memory: &mut [u8],
+    latches: &mut [u8],
+    clocks: u32,
+) -> GrantAnswer
+    ensures { λ r. ⌜ grantAnswer r (now (memory .exit)) (now (latches .exit)) ≡ grant flat (systemOf device (now (memory .entry)) (now (latches .entry))) clocks ⌝ }
+{
+    device.grant(memory, latches, clocks)
+}
+
+// The device is valid: no call refuses it with 1.
+#[no_mangle]
+pub extern "C" fn zxndma_valid(device: Device) -> bool
+    ensures { λ r. ⌜ r ≡ valid (device .core) (total (device .clocks)) ⌝ }
+{
+    let core = device.core;
+    let clocks = device.clocks;
+    refusal::is_valid(core, clocks)
+}
