@@ -1,0 +1,83 @@
+/* Embeds the zxnDMA in a C program: it copies four bytes from 1000 to 2000 and reads the registers back.
+ * docs/src/example.rs does the same in Rust. */
+#include <inttypes.h>
+#include <stdio.h>
+#include <stdlib.h>
+#include <string.h>
+
+#include "zxndma.h"
+
+/* The DMA's port in zxn mode. */
+#define PORT 0x006B
+
+static const uint8_t program[] = {
+    0x83,                          /* Disable */
+    0x7D, 0x00, 0x10, 0x04, 0x00,  /* WR0: A to B, A address 1000, length 4 */
+    0x54, 0x02,                    /* WR1: A is memory and increments, 2 clocks */
+    0x50, 0x02,                    /* WR2: B is memory and increments, 2 clocks */
+    0xAD, 0x00, 0x20,              /* WR4: continuous, B address 2000 */
+    0x82,                          /* WR5: no auto restart */
+    0xCF,                          /* Load */
+    0x87,                          /* Enable */
+};
+
+static uint8_t memory[ZXNDMA_BUFFER_LENGTH];
+static uint8_t latches[ZXNDMA_BUFFER_LENGTH];
+
+/* This program expects no refusal. */
+static void accepted(const char *call, uint8_t number)
+{
+    if (number != 0) {
+        fprintf(stderr, "%s: refused with %d\n", call, number);
+        exit(1);
+    }
+}
+
+static void print_bytes(const char *title, const uint8_t *bytes, size_t count)
+{
+    size_t k;
+
+    printf("%s", title);
+    for (k = 0; k < count; k++)
+        printf(" %02X", bytes[k]);
+    printf("\n");
+}
+
+int main(void)
+{
+    static const uint8_t source[] = {0x11, 0x22, 0x33, 0x44};
+    zxndma_device device = zxndma_power_on();
+    zxndma_write_answer refused;
+    zxndma_grant_answer granted;
+    uint8_t registers[7];
+    size_t k;
+
+    memcpy(memory + 0x1000, source, sizeof source);
+
+    for (k = 0; k < sizeof program; k++) {
+        zxndma_write_answer written = zxndma_write(device, PORT, program[k]);
+        accepted("write", written.number);
+        device = written.device;
+    }
+
+    /* The enabled device holds the bus: a write is refused and changes nothing. */
+    refused = zxndma_write(device, PORT, 0x83);
+    printf("write while the bus is held: refused with %d\n", refused.number);
+
+    granted = zxndma_grant(device, memory, sizeof memory, latches, sizeof latches, 16);
+    accepted("grant", granted.number);
+    device = granted.device;
+    printf("clocks: bus %" PRIu64 ", held %" PRIu64 ", CPU %" PRIu64 "\n", device.clocks.bus, device.clocks.held,
+           device.clocks.cpu);
+    print_bytes("memory at 2000:", memory + 0x2000, sizeof source);
+
+    for (k = 0; k < sizeof registers; k++) {
+        zxndma_read_answer given = zxndma_read(device, PORT);
+        accepted("read", given.number);
+        registers[k] = given.byte;
+        device = given.device;
+    }
+    print_bytes("registers:", registers, sizeof registers);
+    printf("valid: %s\n", zxndma_valid(device) ? "yes" : "no");
+    return 0;
+}

@@ -1,0 +1,74 @@
+//! Embeds the zxnDMA in a Rust program: it copies four bytes from 1000 to
+//! 2000 and reads the registers back. docs/src/example.c does the same in C.
+
+#![deny(unsafe_code)]
+
+#[path = "zxndma.rs"]
+mod zxndma;
+
+use std::process::exit;
+use zxndma::{Device, BUFFER_LENGTH};
+
+/// The DMA's port in zxn mode.
+const PORT: u16 = 0x006B;
+
+const PROGRAM: [u8; 16] = [
+    0x83, // Disable
+    0x7D, 0x00, 0x10, 0x04, 0x00, // WR0: A to B, A address 1000, length 4
+    0x54, 0x02, // WR1: A is memory and increments, 2 clocks
+    0x50, 0x02, // WR2: B is memory and increments, 2 clocks
+    0xAD, 0x00, 0x20, // WR4: continuous, B address 2000
+    0x82, // WR5: no auto restart
+    0xCF, // Load
+    0x87, // Enable
+];
+
+/// This program expects no refusal.
+fn accepted(call: &str, number: u8) {
+    if number != 0 {
+        eprintln!("{}: refused with {}", call, number);
+        exit(1);
+    }
+}
+
+fn print_bytes(title: &str, bytes: &[u8]) {
+    print!("{}", title);
+    for byte in bytes {
+        print!(" {:02X}", byte);
+    }
+    println!();
+}
+
+fn main() {
+    let mut memory = vec![0; BUFFER_LENGTH];
+    let mut latches = vec![0; BUFFER_LENGTH];
+    memory[0x1000..0x1004].copy_from_slice(&[0x11, 0x22, 0x33, 0x44]);
+
+    let mut device = Device::power_on();
+    for byte in PROGRAM {
+        let written = device.write(PORT, byte);
+        accepted("write", written.number);
+        device = written.device;
+    }
+
+    // The enabled device holds the bus: a write is refused and changes nothing.
+    let refused = device.write(PORT, 0x83);
+    println!("write while the bus is held: refused with {}", refused.number);
+
+    let granted = device.grant(&mut memory, &mut latches, 16);
+    accepted("grant", granted.number);
+    device = granted.device;
+    let clocks = device.clocks;
+    println!("clocks: bus {}, held {}, CPU {}", clocks.bus, clocks.held, clocks.cpu);
+    print_bytes("memory at 2000:", &memory[0x2000..0x2004]);
+
+    let mut registers = [0; 7];
+    for register in &mut registers {
+        let given = device.read(PORT);
+        accepted("read", given.number);
+        *register = given.byte;
+        device = given.device;
+    }
+    print_bytes("registers:", &registers);
+    println!("valid: {}", if device.is_valid() { "yes" } else { "no" });
+}

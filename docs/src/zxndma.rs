@@ -1,0 +1,239 @@
+//! The zxnDMA for Rust: a safe wrapper of libhost.a. Include it as a module
+//! and pass rustc the folder of the library by `-L native=FOLDER`.
+//!
+//! A device is plain data, handed over by value and handed back in the
+//! answer. Any content is a device; calls refuse one that is not valid. A
+//! refused call changes nothing: the device comes back as it came, and no
+//! byte of a buffer is written.
+
+// A program may use a part of it.
+#![allow(dead_code)]
+// The only unsafe code of a program that includes it: its calls into the library.
+#![allow(unsafe_code)]
+
+/// The bytes of memory, and of latches, that an accepted grant is lent.
+pub const BUFFER_LENGTH: usize = 65_536;
+
+/// One of the device's two ports, A or B.
+#[repr(C)]
+#[derive(Clone, Copy, PartialEq, Eq, Debug)]
+pub struct Port {
+    /// Starting address: what Load and auto restart copy into the pointer.
+    pub address: u16,
+    /// Address of the next byte.
+    pub pointer: u16,
+    /// The port is I/O; otherwise it is memory.
+    pub io: bool,
+    /// 0 decrements the pointer, 1 increments it, any other value keeps it
+    /// fixed.
+    pub step: u8,
+    /// Cycle length in clocks; valid from 2 to 4.
+    pub cycle: u8,
+}
+
+/// The block that is transferred.
+#[repr(C)]
+#[derive(Clone, Copy, PartialEq, Eq, Debug)]
+pub struct Block {
+    /// Block length as written to WR0.
+    pub length: u16,
+    /// Bytes moved since the counter was last put to zero; valid up to
+    /// 65,536.
+    pub counter: u32,
+    /// Compatibility mode: Zilog, where a block is one byte longer than its
+    /// length; otherwise zxn.
+    pub zilog: bool,
+}
+
+/// How the block is transferred.
+#[repr(C)]
+#[derive(Clone, Copy, PartialEq, Eq, Debug)]
+pub struct Control {
+    /// From port A to port B; otherwise from B to A.
+    pub forward: bool,
+    /// Fixed time for each byte in units of 32 clocks; 0 is off.
+    pub prescaler: u8,
+    /// Burst mode; otherwise continuous.
+    pub burst: bool,
+    /// Auto restart at the end of the block.
+    pub restart: bool,
+}
+
+/// The two bits of the status byte that change.
+#[repr(C)]
+#[derive(Clone, Copy, PartialEq, Eq, Debug)]
+pub struct Status {
+    /// Bit E: false once a block was found finished, until Reset or 8B.
+    pub e: bool,
+    /// Bit T: true once a byte has been transferred, until Reset or 8B.
+    pub t: bool,
+}
+
+/// What the next port reads give.
+#[repr(C)]
+#[derive(Clone, Copy, PartialEq, Eq, Debug)]
+pub struct Readback {
+    /// Read mask, bit k for register k; valid up to 127.
+    pub mask: u8,
+    /// Read position, a register number; valid from 0 to 6.
+    pub position: u8,
+    /// A status read is waiting: the next accepted read gives the status.
+    pub waiting: bool,
+}
+
+/// The pending parameters, the next one first, 0 behind the last. Codes 1 to
+/// 10 are A address low and high, length low and high, A timing, B timing,
+/// prescaler, B address low and high, read mask.
+#[repr(C)]
+#[derive(Clone, Copy, PartialEq, Eq, Debug)]
+pub struct Pending {
+    /// Code of the next parameter, 0 for none.
+    pub first: u8,
+    /// Code of the one after it, 0 for none.
+    pub second: u8,
+    /// Code of the third, 0 for none.
+    pub third: u8,
+    /// Code of the fourth, 0 for none.
+    pub fourth: u8,
+}
+
+/// The running transfer slot; in a valid device all 0 and continuous while no
+/// clock of one has elapsed.
+#[repr(C)]
+#[derive(Clone, Copy, PartialEq, Eq, Debug)]
+pub struct Slot {
+    /// Clocks elapsed, 0 to 8,159.
+    pub elapsed: u16,
+    /// Bus time in clocks, 4 to 8.
+    pub bus: u16,
+    /// Length in clocks: the bus time, or a multiple of 32 up to 8,160.
+    pub length: u16,
+    /// The wait after the bus time is given to the processor.
+    pub burst: bool,
+}
+
+/// The clock counts. Their sum fits 64 bits in a valid device.
+#[repr(C)]
+#[derive(Clone, Copy, PartialEq, Eq, Debug)]
+pub struct Clocks {
+    /// Clocks spent on the bus.
+    pub bus: u64,
+    /// Clocks of waiting with the bus held.
+    pub held: u64,
+    /// Clocks left to the processor.
+    pub cpu: u64,
+}
+
+/// The device without its clock counts.
+#[repr(C)]
+#[derive(Clone, Copy, PartialEq, Eq, Debug)]
+pub struct Core {
+    pub a: Port,
+    pub b: Port,
+    pub block: Block,
+    pub control: Control,
+    pub status: Status,
+    pub readback: Readback,
+    pub pending: Pending,
+    /// A slot is running or about to begin.
+    pub enabled: bool,
+    pub slot: Slot,
+}
+
+/// A zxnDMA.
+#[repr(C)]
+#[derive(Clone, Copy, PartialEq, Eq, Debug)]
+pub struct Device {
+    pub core: Core,
+    pub clocks: Clocks,
+}
+
+/// The answer to a port write.
+#[repr(C)]
+#[derive(Clone, Copy, PartialEq, Eq, Debug)]
+pub struct WriteAnswer {
+    /// 0 for accepted, else the refusal number: 1, 2 or 3.
+    pub number: u8,
+    /// The device afterwards.
+    pub device: Device,
+}
+
+/// The answer to a port read.
+#[repr(C)]
+#[derive(Clone, Copy, PartialEq, Eq, Debug)]
+pub struct ReadAnswer {
+    /// 0 for accepted, else the refusal number: 1, 2 or 3.
+    pub number: u8,
+    /// The byte read, 0 for a refused read.
+    pub byte: u8,
+    /// The device afterwards.
+    pub device: Device,
+}
+
+/// The answer to a grant.
+#[repr(C)]
+#[derive(Clone, Copy, PartialEq, Eq, Debug)]
+pub struct GrantAnswer {
+    /// 0 for accepted, else the refusal number: 1, 4, 5 or 6.
+    pub number: u8,
+    /// The device afterwards.
+    pub device: Device,
+}
+
+#[link(name = "host", kind = "static")]
+extern "C" {
+    fn zxndma_power_on() -> Device;
+    fn zxndma_write(device: Device, port: u16, byte: u8) -> WriteAnswer;
+    fn zxndma_read(device: Device, port: u16) -> ReadAnswer;
+    fn zxndma_grant(
+        device: Device,
+        memory: *mut u8,
+        memory_length: usize,
+        latches: *mut u8,
+        latches_length: usize,
+        clocks: u32,
+    ) -> GrantAnswer;
+    fn zxndma_valid(device: Device) -> bool;
+}
+
+// What all the calls below rest on: the library's functions are proved to
+// answer any device, they keep nothing of what they are given, and the gate
+// compares the layout of the structs above with the library's.
+impl Device {
+    /// A device as it is when power comes on.
+    pub fn power_on() -> Device {
+        // SAFETY: plain data comes back, and every flag in it is 0 or 1.
+        unsafe { zxndma_power_on() }
+    }
+
+    /// A byte is written to the DMA's port: the port number's low byte is 6B
+    /// (zxn mode) or 0B (Zilog mode). Refused with 1, 2 or 3.
+    pub fn write(self, port: u16, byte: u8) -> WriteAnswer {
+        // SAFETY: plain data goes over by value; a Rust bool is 0 or 1.
+        unsafe { zxndma_write(self, port, byte) }
+    }
+
+    /// A byte is read from the DMA's port. Refused with 1, 2 or 3, and then
+    /// the byte is 0.
+    pub fn read(self, port: u16) -> ReadAnswer {
+        // SAFETY: as for a write.
+        unsafe { zxndma_read(self, port) }
+    }
+
+    /// That many clocks pass, and all of them are used. Refused with 4 or 5
+    /// if memory or latches are not `BUFFER_LENGTH` bytes, and with 1 or 6.
+    pub fn grant(self, memory: &mut [u8], latches: &mut [u8], clocks: u32) -> GrantAnswer {
+        let (memory, memory_length) = (memory.as_mut_ptr(), memory.len());
+        let (latches, latches_length) = (latches.as_mut_ptr(), latches.len());
+        // SAFETY: as for a write. Each pointer is a slice's, so it is not null
+        // and to that many bytes; both are borrowed mutably until the call is
+        // over, so nothing else reaches them and they do not overlap.
+        unsafe { zxndma_grant(self, memory, memory_length, latches, latches_length, clocks) }
+    }
+
+    /// The device is valid: no call refuses it with 1.
+    pub fn is_valid(self) -> bool {
+        // SAFETY: as for a write; the answer's byte is 0 or 1.
+        unsafe { zxndma_valid(self) }
+    }
+}

@@ -1,0 +1,228 @@
+/* The zxnDMA, a DMA chip, for C99 and C++11 on x86-64 Linux. Link libhost.a.
+ *
+ * A device is plain data that the host owns: copy it, keep it, compare its fields. A call takes it by value and hands it
+ * back in its answer. Any content is a device; calls refuse one that is not valid. The bytes between the fields have no
+ * meaning, so compare fields and not memory.
+ *
+ * A flag is a bool, and its byte must be 0 or 1. Assigning to it sees to that. A byte that is copied over a flag, or never
+ * set, can hold something else, and no call answers for such a device: set a flag that comes from outside by `byte != 0`.
+ * Every other field may hold anything that its type can hold.
+ *
+ * Numbers in answers: 0 accepted. Refusals, the lowest that applies: 1 the device is not valid; 2 the port number's low
+ * byte is neither 6B nor 0B (hex); 3 the device holds the bus; 4 the memory is not 65,536 bytes; 5 the latches are not
+ * 65,536 bytes; 6 the clock counts would not fit 64 bits. A refused call changes nothing: the device comes back as it came,
+ * and no byte of a buffer is written.
+ */
+#ifndef ZXNDMA_H
+#define ZXNDMA_H
+
+#include <stdbool.h>
+#include <stddef.h>
+#include <stdint.h>
+
+#ifdef __cplusplus
+extern "C" {
+#endif
+
+/* The bytes of memory, and of latches, that an accepted grant is lent. */
+#define ZXNDMA_BUFFER_LENGTH 65536
+
+/* One of the device's two ports, A or B. */
+typedef struct zxndma_port {
+    uint16_t address; /* starting address: what Load and auto restart copy into the pointer */
+    uint16_t pointer; /* address of the next byte */
+    bool io;          /* the port is I/O; otherwise it is memory */
+    uint8_t step;     /* 0 decrements the pointer, 1 increments it, any other value keeps it fixed */
+    uint8_t cycle;    /* cycle length in clocks; valid from 2 to 4 */
+} zxndma_port;
+
+/* The block that is transferred. */
+typedef struct zxndma_block {
+    uint16_t length;  /* block length as written to WR0 */
+    uint32_t counter; /* bytes moved since the counter was last put to zero; valid up to 65,536 */
+    bool zilog;       /* compatibility mode: Zilog, where a block is one byte longer than its length; otherwise zxn */
+} zxndma_block;
+
+/* How the block is transferred. */
+typedef struct zxndma_control {
+    bool forward;      /* from port A to port B; otherwise from B to A */
+    uint8_t prescaler; /* fixed time for each byte in units of 32 clocks; 0 is off */
+    bool burst;        /* burst mode; otherwise continuous */
+    bool restart;      /* auto restart at the end of the block */
+} zxndma_control;
+
+/* The two bits of the status byte that change. */
+typedef struct zxndma_status {
+    bool e; /* bit E: false once a block was found finished, until Reset or 8B */
+    bool t; /* bit T: true once a byte has been transferred, until Reset or 8B */
+} zxndma_status;
+
+/* What the next port reads give. */
+typedef struct zxndma_readback {
+    uint8_t mask;     /* read mask, bit k for register k; valid up to 127 */
+    uint8_t position; /* read position, a register number; valid from 0 to 6 */
+    bool waiting;     /* a status read is waiting: the next accepted read gives the status */
+} zxndma_readback;
+
+/* The pending parameters, the next one first, 0 behind the last. Codes 1 to 10 are A address low and high, length low and
+ * high, A timing, B timing, prescaler, B address low and high, read mask. */
+typedef struct zxndma_pending {
+    uint8_t first;  /* code of the next parameter, 0 for none */
+    uint8_t second; /* code of the one after it, 0 for none */
+    uint8_t third;  /* code of the third, 0 for none */
+    uint8_t fourth; /* code of the fourth, 0 for none */
+} zxndma_pending;
+
+/* The running transfer slot; in a valid device all 0 and continuous while no clock of one has elapsed. */
+typedef struct zxndma_slot {
+    uint16_t elapsed; /* clocks elapsed, 0 to 8,159 */
+    uint16_t bus;     /* bus time in clocks, 4 to 8 */
+    uint16_t length;  /* length in clocks: the bus time, or a multiple of 32 up to 8,160 */
+    bool burst;       /* the wait after the bus time is given to the processor */
+} zxndma_slot;
+
+/* The clock counts. Their sum fits 64 bits in a valid device. */
+typedef struct zxndma_clocks {
+    uint64_t bus;  /* clocks spent on the bus */
+    uint64_t held; /* clocks of waiting with the bus held */
+    uint64_t cpu;  /* clocks left to the processor */
+} zxndma_clocks;
+
+/* The device without its clock counts. */
+typedef struct zxndma_core {
+    zxndma_port a;
+    zxndma_port b;
+    zxndma_block block;
+    zxndma_control control;
+    zxndma_status status;
+    zxndma_readback readback;
+    zxndma_pending pending;
+    bool enabled; /* a slot is running or about to begin */
+    zxndma_slot slot;
+} zxndma_core;
+
+/* A zxnDMA. */
+typedef struct zxndma_device {
+    zxndma_core core;
+    zxndma_clocks clocks;
+} zxndma_device;
+
+/* The answer to a port write. */
+typedef struct zxndma_write_answer {
+    uint8_t number;       /* 0 for accepted, else the refusal: 1, 2 or 3 */
+    zxndma_device device; /* the device afterwards */
+} zxndma_write_answer;
+
+/* The answer to a port read. */
+typedef struct zxndma_read_answer {
+    uint8_t number;       /* 0 for accepted, else the refusal: 1, 2 or 3 */
+    uint8_t byte;         /* the byte read, 0 for a refused read */
+    zxndma_device device; /* the device afterwards */
+} zxndma_read_answer;
+
+/* The answer to a grant. */
+typedef struct zxndma_grant_answer {
+    uint8_t number;       /* 0 for accepted, else the refusal: 1, 4, 5 or 6 */
+    zxndma_device device; /* the device afterwards */
+} zxndma_grant_answer;
+
+/* A device as it is when power comes on. Never refused. */
+zxndma_device zxndma_power_on(void);
+
+/* A byte is written to the DMA's port. The port number's low byte is 6B (zxn mode) or 0B (Zilog mode); the high byte is
+ * free. */
+zxndma_write_answer zxndma_write(zxndma_device device, uint16_t port, uint8_t byte);
+
+/* A byte is read from the DMA's port, 6B or 0B as above. */
+zxndma_read_answer zxndma_read(zxndma_device device, uint16_t port);
+
+/* That many clocks pass, and all of them are used. Both buffers stay the host's and are used only during the call. Each
+ * pointer is to as many bytes as its length says and is not null, also where the length is 0; the two buffers do not
+ * overlap. A length other than ZXNDMA_BUFFER_LENGTH is refused with 4 or 5. */
+zxndma_grant_answer zxndma_grant(zxndma_device device, uint8_t *memory, size_t memory_length, uint8_t *latches,
+                                 size_t latches_length, uint32_t clocks);
+
+/* The device is valid: no call refuses it with 1. */
+bool zxndma_valid(zxndma_device device);
+
+/* ---- The layout that the library was built with ---- */
+
+#ifdef __cplusplus
+#define ZXNDMA_ASSERT(name, fact) static_assert(fact, "layout of zxndma: " #name)
+#else
+#define ZXNDMA_ASSERT(name, fact) typedef char zxndma_assert_##name[(fact) ? 1 : -1]
+#endif
+/* A field's offset and size, and a struct's size, in bytes. */
+#define ZXNDMA_FIELD(part, field, offset, size)                                                                       \
+    ZXNDMA_ASSERT(part##_##field, offsetof(zxndma_##part, field) == (offset) && sizeof(((zxndma_##part *)0)->field) == (size))
+#define ZXNDMA_SIZE(part, size) ZXNDMA_ASSERT(part##_size, sizeof(zxndma_##part) == (size))
+
+ZXNDMA_FIELD(port, address, 0, 2);
+ZXNDMA_FIELD(port, pointer, 2, 2);
+ZXNDMA_FIELD(port, io, 4, 1);
+ZXNDMA_FIELD(port, step, 5, 1);
+ZXNDMA_FIELD(port, cycle, 6, 1);
+ZXNDMA_SIZE(port, 8);
+ZXNDMA_FIELD(block, length, 0, 2);
+ZXNDMA_FIELD(block, counter, 4, 4);
+ZXNDMA_FIELD(block, zilog, 8, 1);
+ZXNDMA_SIZE(block, 12);
+ZXNDMA_FIELD(control, forward, 0, 1);
+ZXNDMA_FIELD(control, prescaler, 1, 1);
+ZXNDMA_FIELD(control, burst, 2, 1);
+ZXNDMA_FIELD(control, restart, 3, 1);
+ZXNDMA_SIZE(control, 4);
+ZXNDMA_FIELD(status, e, 0, 1);
+ZXNDMA_FIELD(status, t, 1, 1);
+ZXNDMA_SIZE(status, 2);
+ZXNDMA_FIELD(readback, mask, 0, 1);
+ZXNDMA_FIELD(readback, position, 1, 1);
+ZXNDMA_FIELD(readback, waiting, 2, 1);
+ZXNDMA_SIZE(readback, 3);
+ZXNDMA_FIELD(pending, first, 0, 1);
+ZXNDMA_FIELD(pending, second, 1, 1);
+ZXNDMA_FIELD(pending, third, 2, 1);
+ZXNDMA_FIELD(pending, fourth, 3, 1);
+ZXNDMA_SIZE(pending, 4);
+ZXNDMA_FIELD(slot, elapsed, 0, 2);
+ZXNDMA_FIELD(slot, bus, 2, 2);
+ZXNDMA_FIELD(slot, length, 4, 2);
+ZXNDMA_FIELD(slot, burst, 6, 1);
+ZXNDMA_SIZE(slot, 8);
+ZXNDMA_FIELD(clocks, bus, 0, 8);
+ZXNDMA_FIELD(clocks, held, 8, 8);
+ZXNDMA_FIELD(clocks, cpu, 16, 8);
+ZXNDMA_SIZE(clocks, 24);
+ZXNDMA_FIELD(core, a, 0, 8);
+ZXNDMA_FIELD(core, b, 8, 8);
+ZXNDMA_FIELD(core, block, 16, 12);
+ZXNDMA_FIELD(core, control, 28, 4);
+ZXNDMA_FIELD(core, status, 32, 2);
+ZXNDMA_FIELD(core, readback, 34, 3);
+ZXNDMA_FIELD(core, pending, 37, 4);
+ZXNDMA_FIELD(core, enabled, 41, 1);
+ZXNDMA_FIELD(core, slot, 42, 8);
+ZXNDMA_SIZE(core, 52);
+ZXNDMA_FIELD(device, core, 0, 52);
+ZXNDMA_FIELD(device, clocks, 56, 24);
+ZXNDMA_SIZE(device, 80);
+ZXNDMA_FIELD(write_answer, number, 0, 1);
+ZXNDMA_FIELD(write_answer, device, 8, 80);
+ZXNDMA_SIZE(write_answer, 88);
+ZXNDMA_FIELD(read_answer, number, 0, 1);
+ZXNDMA_FIELD(read_answer, byte, 1, 1);
+ZXNDMA_FIELD(read_answer, device, 8, 80);
+ZXNDMA_SIZE(read_answer, 88);
+ZXNDMA_FIELD(grant_answer, number, 0, 1);
+ZXNDMA_FIELD(grant_answer, device, 8, 80);
+ZXNDMA_SIZE(grant_answer, 88);
+
+#undef ZXNDMA_SIZE
+#undef ZXNDMA_FIELD
+#undef ZXNDMA_ASSERT
+
+#ifdef __cplusplus
+}
+#endif
+
+#endif
