@@ -1,0 +1,833 @@
+//! Random sessions for the bench program: the same ones for the same seed.
+//!
+//! A module without a main: the programs that compare include it by
+//! `#[path = "generate.rs"] mod generate;`, so it is built with them.
+
+// Each of these programs uses a part of it.
+#![allow(dead_code)]
+#![forbid(unsafe_code)]
+
+// ---- Random numbers ------------------------------------------------------
+
+/// SplitMix64: small, fast and good enough to choose by.
+pub struct Rng {
+    state: u64,
+}
+
+/// SplitMix64's scrambling of a number.
+fn mix(number: u64) -> u64 {
+    let number = (number ^ (number >> 30)).wrapping_mul(0xBF58_476D_1CE4_E5B9);
+    let number = (number ^ (number >> 27)).wrapping_mul(0x94D0_49BB_1331_11EB);
+    number ^ (number >> 31)
+}
+
+impl Rng {
+    pub fn new(seed: u64) -> Rng {
+        Rng { state: seed }
+    }
+
+    /// For one session out of a seed's many: each can be made without those
+    /// before it. Scrambled, so that neighbours have nothing in common.
+    pub fn numbered(seed: u64, number: u64) -> Rng {
+        Rng::new(mix(mix(seed).wrapping_add(number)))
+    }
+
+    pub fn next(&mut self) -> u64 {
+        self.state = self.state.wrapping_add(0x9E37_79B9_7F4A_7C15);
+        mix(self.state)
+    }
+
+    /// 0 to n - 1; n is not 0.
+    pub fn below(&mut self, n: u32) -> u32 {
+        (self.next() % u64::from(n)) as u32
+    }
+
+    /// Both ends can come.
+    pub fn between(&mut self, low: u32, high: u32) -> u32 {
+        low + self.below(high - low + 1)
+    }
+
+    /// True k times in n.
+    pub fn chance(&mut self, k: u32, n: u32) -> bool {
+        self.below(n) < k
+    }
+
+    pub fn byte(&mut self) -> u8 {
+        self.next() as u8
+    }
+
+    pub fn word(&mut self) -> u16 {
+        self.next() as u16
+    }
+
+    pub fn bytes(&mut self, count: u32) -> Vec<u8> {
+        (0..count).map(|_| self.byte()).collect()
+    }
+
+    pub fn pick<T: Copy>(&mut self, from: &[T]) -> T {
+        from[self.below(from.len() as u32) as usize]
+    }
+}
+
+// ---- Records -------------------------------------------------------------
+
+/// A session that is being put together, with a bound on its clocks.
+pub struct Session {
+    bytes: Vec<u8>,
+    records: usize,
+    clocks_left: u32,
+}
+
+/// A record: the length of its content, then the content, kind first.
+pub fn record(content: &[u8]) -> Vec<u8> {
+    let length = u16::try_from(content.len()).expect("a record's length has two bytes");
+    [&length.to_be_bytes()[..], content].concat()
+}
+
+impl Session {
+    /// The version byte and no record yet.
+    pub fn new(clocks: u32) -> Session {
+        Session { bytes: vec![1], records: 0, clocks_left: clocks }
+    }
+
+    pub fn into_bytes(self) -> Vec<u8> {
+        self.bytes
+    }
+
+    fn add(&mut self, content: &[u8]) {
+        self.bytes.extend(record(content));
+        self.records += 1;
+    }
+
+    pub fn write(&mut self, port: u16, byte: u8) {
+        let [high, low] = port.to_be_bytes();
+        self.add(&[1, high, low, byte]);
+    }
+
+    pub fn read(&mut self, port: u16) {
+        let [high, low] = port.to_be_bytes();
+        self.add(&[2, high, low]);
+    }
+
+    /// No more clocks than the session has left: programs take them singly.
+    pub fn grant(&mut self, clocks: u32) {
+        let clocks = clocks.min(self.clocks_left);
+        self.clocks_left -= clocks;
+        self.add(&[&[3][..], &clocks.to_be_bytes()].concat());
+    }
+
+    /// 1 to 255 bytes.
+    pub fn memory(&mut self, address: u16, bytes: &[u8]) {
+        self.add(&[&[4][..], &address.to_be_bytes(), bytes].concat());
+    }
+}
+
+// ---- Numbers worth trying ------------------------------------------------
+
+/// Half of them from a few, so that blocks overlap, wrap, and meet what an
+/// earlier transfer left, and an I/O write falls on the DMA's own port.
+fn address(rng: &mut Rng) -> u16 {
+    const FEW: [u16; 12] =
+        [0, 1, 2, 0x000B, 0x006B, 0x00FF, 0x0100, 0x1000, 0x1001, 0xFF6B, 0xFFFE, 0xFFFF];
+    if rng.chance(1, 2) {
+        rng.pick(&FEW)
+    } else {
+        rng.word()
+    }
+}
+
+/// Mostly short; some go past a byte, and some don't end.
+fn length(rng: &mut Rng) -> u16 {
+    match rng.below(16) {
+        0..=5 => rng.below(6) as u16,
+        6..=11 => rng.below(40) as u16,
+        12 => rng.pick(&[0x00FE, 0x00FF, 0x0100, 0x0101]),
+        13 => rng.between(200, 900) as u16,
+        14 => rng.pick(&[0xFFFE, 0xFFFF]),
+        _ => rng.word(),
+    }
+}
+
+fn prescaler(rng: &mut Rng) -> u8 {
+    match rng.below(8) {
+        0 => 0,
+        1..=3 => 1,
+        4 => 2,
+        5 => 55,
+        6 => 255,
+        _ => rng.byte(),
+    }
+}
+
+/// Both right low bytes take any high byte.
+fn dma_port(rng: &mut Rng, zilog: bool) -> u16 {
+    let low = if zilog { 0x0B } else { 0x6B };
+    let high = if rng.chance(1, 2) { 0 } else { rng.byte() };
+    u16::from_be_bytes([high, low])
+}
+
+/// Near misses, or any port.
+fn other_port(rng: &mut Rng) -> u16 {
+    const NEAR: [u16; 10] =
+        [0x006A, 0x006C, 0x000A, 0x000C, 0x002B, 0x004B, 0x00EB, 0x008B, 0x6B00, 0x0B00];
+    if rng.chance(1, 2) {
+        rng.pick(&NEAR)
+    } else {
+        rng.word()
+    }
+}
+
+/// One less, the number, or one more.
+fn near(rng: &mut Rng, number: u32) -> u32 {
+    (number + rng.below(3)).saturating_sub(1)
+}
+
+// ---- Bytes written to the port -------------------------------------------
+
+const RESET: u8 = 0xC3;
+const DISABLE: u8 = 0x83;
+const ENABLE: u8 = 0x87;
+const LOAD: u8 = 0xCF;
+const CONTINUE: u8 = 0xD3;
+const READ_MASK: u8 = 0xBB;
+const STATUS_READ: u8 = 0xBF;
+
+/// WR3's bits that don't matter.
+const WR3_IGNORED: u8 = 0b0011_1100;
+
+fn enable(rng: &mut Rng) -> u8 {
+    let wr3 = 0xC0 | (rng.byte() & WR3_IGNORED);
+    rng.pick(&[ENABLE, wr3])
+}
+
+fn disable(rng: &mut Rng) -> u8 {
+    let wr3 = 0x80 | (rng.byte() & WR3_IGNORED);
+    rng.pick(&[DISABLE, wr3])
+}
+
+/// BB and a mask: empty, one bit, all, any; bit 7 set in some.
+fn read_mask(rng: &mut Rng) -> Vec<u8> {
+    let mask = match rng.below(5) {
+        0 => 0,
+        1 => 1 << rng.below(7),
+        2 => 0x7F,
+        _ => rng.byte(),
+    };
+    let bit_7 = rng.pick(&[0, 0x80]);
+    vec![READ_MASK, mask | bit_7]
+}
+
+/// One of the 24 bytes that select no register: 11xxxx10 or 10xxx110.
+fn selects_none(rng: &mut Rng) -> u8 {
+    if rng.chance(2, 3) {
+        0b1100_0010 | (rng.byte() & 0b0011_1100)
+    } else {
+        0b1000_0110 | (rng.byte() & 0b0011_1000)
+    }
+}
+
+fn command(rng: &mut Rng) -> u8 {
+    match rng.below(16) {
+        0..=3 => enable(rng),
+        4 => disable(rng),
+        5 => RESET,
+        6 | 7 => LOAD,
+        8 | 9 => CONTINUE,
+        // Any of WR6, listed or not.
+        10 => 0x83 | (rng.byte() & 0x7C),
+        // The resets of timings and status, then those about reading.
+        _ => rng.pick(&[0xC7, 0xCB, 0x8B, STATUS_READ, 0xA7, 0xB3]),
+    }
+}
+
+/// A register's byte and those of its parameters that `wanted` has a bit for.
+fn with_parameters(base: u8, first_bit: u8, wanted: u8, values: &[u8]) -> Vec<u8> {
+    let mut bytes = vec![base | (wanted << first_bit)];
+    let chosen = values.iter().enumerate().filter(|(n, _)| (wanted >> n) & 1 == 1);
+    bytes.extend(chosen.map(|(_, value)| value));
+    bytes
+}
+
+// ---- Programming sequences -----------------------------------------------
+
+/// Port A or port B.
+#[derive(Clone, Copy)]
+struct Side {
+    address: u16,
+    io: bool,
+    /// The two bits.
+    step: u8,
+    /// The timing byte, if one is written.
+    timing: Option<u8>,
+}
+
+impl Side {
+    fn random(rng: &mut Rng) -> Side {
+        Side {
+            address: address(rng),
+            io: rng.chance(2, 5),
+            step: rng.pick(&[0, 1, 1, 1, 2, 3]),
+            timing: if rng.chance(3, 4) { Some(rng.byte()) } else { None },
+        }
+    }
+
+    fn cycle(&self) -> u32 {
+        self.timing.map_or(4, |byte| [4, 3, 2, 4][usize::from(byte & 3)])
+    }
+
+    /// WR1 or WR2 with its parameters.
+    fn register(&self, base: u8) -> Vec<u8> {
+        let base = base | (u8::from(self.io) << 3) | (self.step << 4);
+        let timing = self.timing.unwrap_or(0);
+        with_parameters(base, 6, u8::from(self.timing.is_some()), &[timing])
+    }
+}
+
+/// What a programming sequence sets up. It answers how long slots and blocks
+/// take; that is right as long as the device has accepted all of it, and else
+/// a guess, which is enough to choose grants by.
+#[derive(Clone, Copy)]
+struct Plan {
+    zilog: bool,
+    a_to_b: bool,
+    length: u16,
+    a: Side,
+    b: Side,
+    /// The prescaler byte, if one is written; only behind B's timing byte.
+    prescaler: Option<u8>,
+    /// WR4's bits 6-5.
+    mode: u8,
+    auto_restart: bool,
+}
+
+/// WR4's bits 6-5 for burst.
+const BURST: u8 = 0b10;
+
+/// WR0's parameters in its order: bits of `wanted` below.
+const WR0_LENGTH: u8 = 0b1100;
+const WR0_ALL: u8 = 0b1111;
+const WR4_ALL: u8 = 0b11;
+
+impl Plan {
+    fn random(rng: &mut Rng) -> Plan {
+        let mut plan = Plan {
+            zilog: rng.chance(1, 3),
+            a_to_b: rng.chance(1, 2),
+            length: length(rng),
+            a: Side::random(rng),
+            b: Side::random(rng),
+            prescaler: if rng.chance(1, 2) { Some(prescaler(rng)) } else { None },
+            mode: rng.pick(&[0, 1, BURST, BURST, 3]),
+            auto_restart: rng.chance(1, 4),
+        };
+        if rng.chance(1, 4) {
+            // Overlapping blocks.
+            plan.b.address = plan.a.address.wrapping_add(rng.below(9) as u16).wrapping_sub(4);
+        }
+        plan
+    }
+
+    /// A block that is soon over and leaves the bus.
+    fn short(rng: &mut Rng) -> Plan {
+        let length = rng.below(6) as u16;
+        let prescaler = rng.pick(&[None, Some(1), Some(2)]);
+        Plan { length, prescaler, auto_restart: false, ..Plan::random(rng) }
+    }
+
+    /// Slots with a wait in which the host can write and read.
+    fn with_burst_waits(rng: &mut Rng) -> Plan {
+        let mut plan = Plan::random(rng);
+        plan.mode = BURST;
+        plan.b.timing = Some(rng.byte());
+        plan.prescaler = Some(prescaler(rng).max(1));
+        plan.length = plan.length.max(1);
+        plan
+    }
+
+    /// The most bytes there can be, or one less, in slots of 4 clocks.
+    fn longest(rng: &mut Rng) -> Plan {
+        let mut plan = Plan::random(rng);
+        plan.zilog = rng.chance(3, 4);
+        plan.length = 0xFFFF;
+        plan.a.timing = Some(2);
+        plan.b.timing = Some(2);
+        plan.prescaler = None;
+        plan
+    }
+
+    /// For another transfer in the same session: a new one, or the other way
+    /// round between the same places, which reads back what was written.
+    fn following(&self, rng: &mut Rng) -> Plan {
+        if rng.chance(1, 2) {
+            Plan::random(rng)
+        } else {
+            Plan { a_to_b: !self.a_to_b, zilog: rng.chance(1, 2), ..*self }
+        }
+    }
+
+    fn bus_time(&self) -> u32 {
+        self.a.cycle() + self.b.cycle()
+    }
+
+    fn slot(&self) -> u32 {
+        match self.b.timing.and(self.prescaler) {
+            None | Some(0) => self.bus_time(),
+            Some(prescaler) => 32 * u32::from(prescaler),
+        }
+    }
+
+    fn block(&self) -> u32 {
+        self.slot() * (u32::from(self.length) + u32::from(self.zilog))
+    }
+
+    /// About the block's clocks; of a long block only the start.
+    fn about_a_block(&self, rng: &mut Rng) -> u32 {
+        near(rng, self.block().min(20_000))
+    }
+
+    fn source(&self) -> Side {
+        if self.a_to_b {
+            self.a
+        } else {
+            self.b
+        }
+    }
+
+    fn wr0(&self, rng: &mut Rng, wanted: u8) -> Vec<u8> {
+        let base = rng.between(1, 3) as u8 | (u8::from(self.a_to_b) << 2);
+        let [a_high, a_low] = self.a.address.to_be_bytes();
+        let [length_high, length_low] = self.length.to_be_bytes();
+        with_parameters(base, 3, wanted, &[a_low, a_high, length_low, length_high])
+    }
+
+    fn wr1(&self) -> Vec<u8> {
+        self.a.register(0b100)
+    }
+
+    fn wr2(&self) -> Vec<u8> {
+        // The timing byte's bit 5 says if the prescaler follows.
+        let announced = u8::from(self.prescaler.is_some()) << 5;
+        let timing = self.b.timing.map(|byte| (byte & !(1 << 5)) | announced);
+        let mut bytes = Side { timing, ..self.b }.register(0);
+        bytes.extend(timing.and(self.prescaler));
+        bytes
+    }
+
+    fn wr4(&self, rng: &mut Rng, wanted: u8) -> Vec<u8> {
+        let ignored = rng.byte() & 0b0001_0000;
+        let [high, low] = self.b.address.to_be_bytes();
+        with_parameters(0x81 | (self.mode << 5) | ignored, 2, wanted, &[low, high])
+    }
+
+    fn wr5(&self, rng: &mut Rng) -> Vec<u8> {
+        let ignored = rng.byte() & 0b0001_1000;
+        vec![0x82 | (u8::from(self.auto_restart) << 5) | ignored]
+    }
+
+    /// The whole sequence, in groups of a register and its parameters.
+    fn groups(&self, rng: &mut Rng) -> Vec<Vec<u8>> {
+        let mut groups = vec![vec![rng.pick(&[RESET, RESET, DISABLE])]];
+        // WR0 in one, or once for some parameters and once for the others.
+        let first = if rng.chance(1, 3) { rng.below(16) as u8 } else { WR0_ALL };
+        groups.push(self.wr0(rng, first));
+        if first != WR0_ALL {
+            groups.push(self.wr0(rng, WR0_ALL & !first));
+        }
+        groups.push(self.wr1());
+        groups.push(self.wr2());
+        groups.push(self.wr4(rng, WR4_ALL));
+        groups.push(self.wr5(rng));
+        if rng.chance(1, 4) {
+            groups.push(read_mask(rng));
+        }
+        groups.push(vec![LOAD]);
+        groups.push(vec![enable(rng)]);
+        groups
+    }
+
+    /// A change of one thing: the plan's, and the bytes that tell the device.
+    fn change(&mut self, rng: &mut Rng) -> Vec<u8> {
+        match rng.below(19) {
+            0..=2 => {
+                self.length = if rng.chance(1, 4) { 0 } else { length(rng) };
+                let wanted = rng.pick(&[WR0_LENGTH, WR0_LENGTH, 0b0100, 0b1000]);
+                self.wr0(rng, wanted)
+            }
+            3 => {
+                self.a_to_b = rng.chance(1, 2);
+                self.a.address = address(rng);
+                let wanted = rng.below(16) as u8;
+                self.wr0(rng, wanted)
+            }
+            4 => {
+                self.a = Side { address: self.a.address, ..Side::random(rng) };
+                self.wr1()
+            }
+            5 | 6 => {
+                self.b = Side { address: self.b.address, ..Side::random(rng) };
+                self.prescaler = rng.pick(&[None, Some(0), Some(1), Some(2), Some(3)]);
+                self.wr2()
+            }
+            7 => {
+                self.mode = rng.below(4) as u8;
+                let wanted = rng.pick(&[0, 0, 1, 2, 3]);
+                self.wr4(rng, wanted)
+            }
+            8 | 9 => {
+                self.auto_restart = !self.auto_restart;
+                self.wr5(rng)
+            }
+            10 => vec![selects_none(rng)],
+            11 => read_mask(rng),
+            12 => vec![STATUS_READ],
+            _ => vec![command(rng)],
+        }
+    }
+}
+
+/// Leaves out, doubles, swaps or spoils something, one to three times.
+fn vary(rng: &mut Rng, groups: &mut Vec<Vec<u8>>) {
+    for _ in 0..rng.between(1, 3) {
+        let one = rng.below(groups.len() as u32) as usize;
+        let other = rng.below(groups.len() as u32) as usize;
+        match rng.below(6) {
+            0 => {
+                groups.remove(one);
+            }
+            1 => groups.insert(one, groups[one].clone()),
+            2 => groups.swap(one, other),
+            3 => {
+                groups[one].pop();
+            }
+            4 => groups[one] = vec![rng.byte()],
+            _ => groups.insert(one, vec![selects_none(rng)]),
+        }
+    }
+}
+
+// ---- Parts of a session --------------------------------------------------
+
+/// Some bytes on the plan's port; now and then the host changes the port, and
+/// with it the mode, in between.
+fn write_all(rng: &mut Rng, session: &mut Session, plan: &mut Plan, bytes: &[u8]) {
+    for &byte in bytes {
+        if rng.chance(1, 60) {
+            plan.zilog = !plan.zilog;
+        }
+        session.write(dma_port(rng, plan.zilog), byte);
+    }
+}
+
+/// One byte, whatever it does.
+fn write_any(rng: &mut Rng, session: &mut Session, plan: &mut Plan) {
+    let byte = rng.byte();
+    write_all(rng, session, plan, &[byte]);
+}
+
+/// Some reads in a row; they go round the mask when there are enough.
+fn read_some(rng: &mut Rng, session: &mut Session) {
+    for _ in 0..rng.pick(&[1, 1, 2, 3, 7, 8, 15]) {
+        let zilog = rng.chance(1, 3);
+        session.read(dma_port(rng, zilog));
+    }
+}
+
+/// Bytes into memory: where the source is, or anywhere.
+fn fill_memory(rng: &mut Rng, session: &mut Session, plan: &Plan) {
+    let start = if rng.chance(2, 3) { plan.source().address } else { address(rng) };
+    let back = rng.pick(&[0, 0, 1, 20]);
+    let count = match rng.below(4) {
+        0 => 1,
+        1 => 255,
+        _ => rng.between(1, 40),
+    };
+    session.memory(start.wrapping_sub(back), &rng.bytes(count));
+}
+
+/// Clocks for one grant, most of them about the ends of the plan's slots.
+fn clocks(rng: &mut Rng, plan: &Plan) -> u32 {
+    let slot = plan.slot();
+    match rng.below(40) {
+        0 => 0,
+        1..=4 => rng.below(12),
+        5..=10 => near(rng, plan.bus_time()),
+        11..=17 => near(rng, slot),
+        18..=22 => rng.below(slot),
+        // Whole slots keep the place within the slot.
+        23..=28 => slot * rng.between(1, 4),
+        29..=32 => slot * rng.below(4) + rng.below(slot),
+        33..=35 => plan.about_a_block(rng),
+        36..=38 => rng.below(plan.block().min(20_000) + 20),
+        _ => rng.below(100_000),
+    }
+}
+
+/// A total of clocks in one to four grants.
+fn grant_in_parts(rng: &mut Rng, session: &mut Session, total: u32) {
+    let mut left = total;
+    for _ in 0..rng.below(4) {
+        let part = rng.below(left + 1);
+        session.grant(part);
+        left -= part;
+        if rng.chance(1, 3) {
+            read_some(rng, session);
+        }
+    }
+    session.grant(left);
+}
+
+/// The sequence, as it should be or varied.
+fn program(rng: &mut Rng, session: &mut Session, plan: &mut Plan, varied: bool) {
+    let mut groups = plan.groups(rng);
+    if varied {
+        vary(rng, &mut groups);
+    }
+    write_all(rng, session, plan, &groups.concat());
+}
+
+/// A write or a read that isn't for the DMA.
+fn miss_port(rng: &mut Rng, session: &mut Session) {
+    let port = other_port(rng);
+    if rng.chance(1, 2) {
+        session.write(port, rng.byte());
+    } else {
+        session.read(port);
+    }
+}
+
+/// Writes a change; now and then its last byte, mostly a parameter, stays out.
+fn write_change(rng: &mut Rng, session: &mut Session, plan: &mut Plan) {
+    let mut bytes = plan.change(rng);
+    if rng.chance(1, 12) {
+        bytes.pop();
+    }
+    write_all(rng, session, plan, &bytes);
+    if rng.chance(1, 3) {
+        read_some(rng, session);
+    }
+}
+
+/// Anything a host may do next, whatever the device is doing.
+fn act(rng: &mut Rng, session: &mut Session, plan: &mut Plan) {
+    match rng.below(20) {
+        0..=6 => session.grant(clocks(rng, plan)),
+        7..=10 => read_some(rng, session),
+        11..=16 => write_change(rng, session, plan),
+        17 => fill_memory(rng, session, plan),
+        18 => miss_port(rng, session),
+        _ => write_any(rng, session, plan),
+    }
+}
+
+fn act_often(rng: &mut Rng, session: &mut Session, plan: &mut Plan, most: u32) {
+    for _ in 0..rng.between(1, most) {
+        act(rng, session, plan);
+    }
+}
+
+// ---- Whole sessions ------------------------------------------------------
+
+/// Programs take the clocks one by one: few sessions have many.
+fn clocks_of_a_session(rng: &mut Rng) -> u32 {
+    if rng.chance(1, 30) {
+        200_000
+    } else {
+        50_000
+    }
+}
+
+/// One to three transfers, each programmed and run.
+fn transfers(rng: &mut Rng) -> Session {
+    let mut session = Session::new(clocks_of_a_session(rng));
+    let mut plan = Plan::random(rng);
+    for _ in 0..rng.between(1, 3) {
+        fill_memory(rng, &mut session, &plan);
+        let varied = rng.chance(2, 5);
+        program(rng, &mut session, &mut plan, varied);
+        if rng.chance(1, 2) {
+            let total = plan.about_a_block(rng);
+            grant_in_parts(rng, &mut session, total);
+        } else {
+            act_often(rng, &mut session, &mut plan, 12);
+        }
+        read_some(rng, &mut session);
+        plan = plan.following(rng);
+    }
+    session
+}
+
+/// A transfer in burst, with much done in its waits.
+fn burst_waits(rng: &mut Rng) -> Session {
+    let mut session = Session::new(clocks_of_a_session(rng));
+    let mut plan = Plan::with_burst_waits(rng);
+    fill_memory(rng, &mut session, &plan);
+    program(rng, &mut session, &mut plan, false);
+    // Into the wait of one of the first slots.
+    let wait = plan.slot() - plan.bus_time();
+    session.grant(plan.slot() * rng.below(3) + plan.bus_time() + rng.below(wait));
+    for _ in 0..rng.between(1, 6) {
+        write_change(rng, &mut session, &mut plan);
+        if rng.chance(1, 2) {
+            // Whole slots lead into a wait again.
+            session.grant(plan.slot() * rng.between(1, 3));
+        }
+    }
+    act_often(rng, &mut session, &mut plan, 16);
+    read_some(rng, &mut session);
+    session
+}
+
+/// The longest block to its end, or about there, and on from it.
+fn longest_block(rng: &mut Rng) -> Session {
+    let mut session = Session::new(600_000);
+    let mut plan = Plan::longest(rng);
+    fill_memory(rng, &mut session, &plan);
+    program(rng, &mut session, &mut plan, false);
+    let total = near(rng, plan.block());
+    grant_in_parts(rng, &mut session, total);
+    act_often(rng, &mut session, &mut plan, 40);
+    read_some(rng, &mut session);
+    session
+}
+
+/// Random bytes to the right ports, and anything else between them.
+fn noise(rng: &mut Rng) -> Session {
+    let mut session = Session::new(clocks_of_a_session(rng));
+    let mut plan = Plan::random(rng);
+    for _ in 0..rng.between(1, 60) {
+        match rng.below(8) {
+            0..=3 => write_any(rng, &mut session, &mut plan),
+            4 => session.grant(rng.pick(&[0, 1, 3, 4, 8, 33, 300])),
+            _ => act(rng, &mut session, &mut plan),
+        }
+    }
+    session
+}
+
+/// So many records that neither they nor their lines fit a pipe.
+fn long(rng: &mut Rng) -> Session {
+    let mut session = Session::new(300_000);
+    let records = rng.between(14_000, 40_000) as usize;
+    while session.records < records {
+        let mut plan = Plan::short(rng);
+        program(rng, &mut session, &mut plan, false);
+        grant_in_parts(rng, &mut session, plan.block());
+        read_some(rng, &mut session);
+        if rng.chance(1, 20) {
+            miss_port(rng, &mut session);
+        }
+    }
+    session
+}
+
+/// Any session without a fault.
+fn faultless(rng: &mut Rng) -> Session {
+    match rng.below(1_000) {
+        0..=9 => longest_block(rng),
+        10..=14 => long(rng),
+        15..=149 => noise(rng),
+        150..=499 => burst_waits(rng),
+        _ => transfers(rng),
+    }
+}
+
+// ---- Faults --------------------------------------------------------------
+
+/// A length for the content of a record: about the kind's right ones, or far
+/// from them.
+fn any_length(rng: &mut Rng, kind: u8) -> u32 {
+    let limits = match kind {
+        1 => [4, 4],
+        2 => [3, 3],
+        3 => [5, 5],
+        4 => [4, 258],
+        _ => [1, 5],
+    };
+    match rng.below(10) {
+        0..=5 => {
+            let limit = rng.pick(&limits);
+            near(rng, limit).max(1)
+        }
+        6 => rng.between(1, 7),
+        7 => rng.between(8, 300),
+        8 => rng.between(1_000, 9_000),
+        _ => 65_535,
+    }
+}
+
+/// A record with a kind that there is or isn't, and a length that may be
+/// right for it.
+fn any_record(rng: &mut Rng) -> Vec<u8> {
+    let unknown = rng.between(5, 255) as u8;
+    let kind = rng.pick(&[1, 2, 3, 4, 4, 4, 0, 5, 255, unknown]);
+    let length = any_length(rng, kind);
+    let mut content = rng.bytes(length);
+    content[0] = kind;
+    if kind == 3 {
+        // A grant, should the length be right or be made so: of few clocks.
+        content.iter_mut().skip(1).take(3).for_each(|byte| *byte = 0);
+    }
+    record(&content)
+}
+
+/// Keeps one byte at least, and of more than one not all.
+fn cut(rng: &mut Rng, bytes: &mut Vec<u8>) {
+    // Near the start as often as anywhere, for long records too.
+    let most = rng.pick(&[bytes.len(), bytes.len().min(8)]) as u32;
+    bytes.truncate(rng.between(1, most.max(2) - 1) as usize);
+}
+
+/// What stands behind a fault, which ends the session whatever it is.
+fn behind(rng: &mut Rng) -> Vec<u8> {
+    match rng.below(3) {
+        0 => Vec::new(),
+        1 => {
+            let count = rng.between(1, 40);
+            rng.bytes(count)
+        }
+        _ => transfers(rng).into_bytes().split_off(1),
+    }
+}
+
+/// Nothing at all, or a first byte that isn't 1.
+fn wrong_version(rng: &mut Rng) -> Vec<u8> {
+    let mut bytes = faultless(rng).into_bytes();
+    bytes[0] = rng.pick(&[0, 2, 3, 0x81, 255]);
+    let kept = rng.pick(&[0, 1, 2, 3, bytes.len()]);
+    bytes.truncate(kept);
+    bytes
+}
+
+/// A record that is cut short, empty, or perhaps wrong; with something behind
+/// it, except where that would make up for the cut.
+fn fault(rng: &mut Rng) -> Vec<u8> {
+    let mut bytes = if rng.chance(1, 8) { record(&[]) } else { any_record(rng) };
+    if rng.chance(2, 5) {
+        cut(rng, &mut bytes);
+    } else {
+        bytes.extend(behind(rng));
+    }
+    bytes
+}
+
+/// Some right records or none, then a fault.
+fn faulty(rng: &mut Rng) -> Vec<u8> {
+    let before = if rng.chance(1, 4) { Session::new(0) } else { faultless(rng) };
+    let mut bytes = before.into_bytes();
+    if rng.chance(1, 8) {
+        // Cut anywhere in them: mostly within a record.
+        cut(rng, &mut bytes);
+    } else {
+        bytes.extend(fault(rng));
+    }
+    bytes
+}
+
+/// One session. Its clocks are mostly below 50,000, rarely some 600,000.
+pub fn session(rng: &mut Rng) -> Vec<u8> {
+    match rng.below(100) {
+        0..=2 => wrong_version(rng),
+        3..=16 => faulty(rng),
+        _ => faultless(rng).into_bytes(),
+    }
+}
