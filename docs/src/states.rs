@@ -1,0 +1,732 @@
+//! Compares the linked library with the second program: on devices of any
+//! content, with any port, byte, clocks and buffers, and on sessions. Every
+//! answer is compared whole: number, byte, each field of the device, and
+//! after a grant both buffers.
+
+#![deny(unsafe_code)]
+
+#[path = "generate.rs"]
+mod generate;
+#[path = "reference.rs"]
+mod reference;
+#[path = "zxndma.rs"]
+mod zxndma;
+
+use generate::Rng;
+use reference::model::{self, SIZE};
+use std::process::ExitCode;
+use zxndma::{Block, Clocks, Control, Core, Device, Pending, Port, Readback, Slot, Status};
+
+const USAGE: &str = "usage: states [--calls N] [--sessions N] [--seed N]... [FILE.hex]...
+Compares the linked library with the second program, for each seed by N calls
+on made devices (1000000) and N made sessions (300), and on the stored sessions.
+Fails at the first difference, or if some refusal never occurred.";
+
+// ---- Both sides ----------------------------------------------------------
+
+/// The model's device with the content of the library's. The patterns name
+/// every field: none can be forgotten.
+fn model_of(device: Device) -> model::Device {
+    let Device { core, clocks: Clocks { bus, held, cpu } } = device;
+    let Core { a, b, block, control, status, readback, pending, enabled, slot } = core;
+    let Block { length, counter, zilog } = block;
+    let Control { forward, prescaler, burst, restart } = control;
+    let Status { e, t } = status;
+    let Readback { mask, position, waiting } = readback;
+    let Pending { first, second, third, fourth } = pending;
+    model::Device {
+        a: model_port(a),
+        b: model_port(b),
+        slot: model_slot(slot),
+        clocks: model::Clocks { bus, held, cpu },
+        length,
+        counter,
+        a_to_b: forward,
+        prescaler,
+        burst,
+        auto_restart: restart,
+        zilog,
+        enabled,
+        e,
+        t,
+        mask,
+        place: position,
+        status_waiting: waiting,
+        pending: [first, second, third, fourth],
+    }
+}
+
+fn model_port(port: Port) -> model::Port {
+    let Port { address, pointer, io, step, cycle } = port;
+    model::Port { address, pointer, io, step, cycle }
+}
+
+fn model_slot(slot: Slot) -> model::Slot {
+    let Slot { elapsed, bus, length, burst } = slot;
+    model::Slot { elapsed, bus, length, burst }
+}
+
+/// A call and its arguments.
+#[derive(Clone, Copy, Debug)]
+enum Call {
+    PowerOn,
+    Write {
+        port: u16,
+        byte: u8,
+    },
+    Read {
+        port: u16,
+    },
+    /// With the lengths of the buffers lent.
+    Grant {
+        memory: usize,
+        latches: usize,
+        clocks: u32,
+    },
+    /// Its number is 1 for valid.
+    Valid,
+}
+
+#[derive(PartialEq, Debug)]
+struct Answer {
+    number: u8,
+    byte: u8,
+    device: model::Device,
+}
+
+/// What one side lends, with room for buffers that are too long. A call must
+/// leave the rest alone.
+#[derive(PartialEq)]
+struct Buffers {
+    memory: Vec<u8>,
+    latches: Vec<u8>,
+}
+
+/// The longest buffer lent.
+const LONGEST: usize = 2 * SIZE;
+
+impl Buffers {
+    fn zero() -> Buffers {
+        Buffers { memory: vec![0; LONGEST], latches: vec![0; LONGEST] }
+    }
+
+    /// The same bytes on each side, for the same random numbers.
+    fn fill(&mut self, rng: &mut Rng) {
+        for bytes in self.memory.chunks_mut(8).chain(self.latches.chunks_mut(8)) {
+            bytes.copy_from_slice(&rng.next().to_le_bytes());
+        }
+    }
+
+    fn copy(&mut self, other: &Buffers) {
+        self.memory.copy_from_slice(&other.memory);
+        self.latches.copy_from_slice(&other.latches);
+    }
+
+    /// A session's memory record.
+    fn store(&mut self, address: u16, bytes: &[u8]) {
+        for (k, &byte) in bytes.iter().enumerate() {
+            self.memory[(usize::from(address) + k) % SIZE] = byte;
+        }
+    }
+}
+
+/// The library's answer, and its device as it came.
+fn by_library(device: Device, call: Call, lent: &mut Buffers) -> (Answer, Device) {
+    let (number, byte, device) = match call {
+        Call::PowerOn => (0, 0, Device::power_on()),
+        Call::Write { port, byte } => {
+            let written = device.write(port, byte);
+            (written.number, 0, written.device)
+        }
+        Call::Read { port } => {
+            let given = device.read(port);
+            (given.number, given.byte, given.device)
+        }
+        Call::Grant { memory, latches, clocks } => {
+            let granted =
+                device.grant(&mut lent.memory[..memory], &mut lent.latches[..latches], clocks);
+            (granted.number, 0, granted.device)
+        }
+        Call::Valid => (u8::from(device.is_valid()), 0, device),
+    };
+    (Answer { number, byte, device: model_of(device) }, device)
+}
+
+fn by_model(device: Device, call: Call, lent: &mut Buffers) -> Answer {
+    let mut device = model_of(device);
+    let (number, byte) = match call {
+        Call::PowerOn => {
+            device = model::power_on();
+            (0, 0)
+        }
+        Call::Write { port, byte } => (model::write(&mut device, port, byte), 0),
+        Call::Read { port } => model::read(&mut device, port),
+        Call::Grant { memory, latches, clocks } => {
+            let (memory, latches) = (&mut lent.memory[..memory], &mut lent.latches[..latches]);
+            (model::grant(&mut device, memory, latches, clocks), 0)
+        }
+        Call::Valid => (u8::from(model::valid(&device)), 0),
+    };
+    Answer { number, byte, device }
+}
+
+// ---- Comparing -----------------------------------------------------------
+
+/// How often each number was answered, by the kind of call.
+#[derive(Default)]
+struct Counts {
+    power_on: [u64; 7],
+    write: [u64; 7],
+    read: [u64; 7],
+    grant: [u64; 7],
+    valid: [u64; 7],
+}
+
+impl Counts {
+    fn of(&mut self, call: Call) -> &mut [u64; 7] {
+        match call {
+            Call::PowerOn => &mut self.power_on,
+            Call::Write { .. } => &mut self.write,
+            Call::Read { .. } => &mut self.read,
+            Call::Grant { .. } => &mut self.grant,
+            Call::Valid => &mut self.valid,
+        }
+    }
+
+    /// Each kind of call, with the numbers that it can answer.
+    fn kinds(&self) -> [(&'static str, &[u64; 7], &'static [usize]); 5] {
+        [
+            ("power on", &self.power_on, &[0]),
+            ("write", &self.write, &[0, 1, 2, 3]),
+            ("read", &self.read, &[0, 1, 2, 3]),
+            ("grant", &self.grant, &[0, 1, 4, 5, 6]),
+            ("valid (1 for yes)", &self.valid, &[0, 1]),
+        ]
+    }
+
+    /// The counts as lines, or the first number that never occurred.
+    fn summary(&self) -> Result<String, String> {
+        let mut lines = String::new();
+        let mut calls = 0;
+        for (kind, counts, numbers) in self.kinds() {
+            lines.push_str(&format!("states: {}:", kind));
+            for &number in numbers {
+                if counts[number] == 0 {
+                    return Err(format!("the number {} of {} never occurred", number, kind));
+                }
+                lines.push_str(&format!(" {} x {}", number, counts[number]));
+                calls += counts[number];
+            }
+            lines.push('\n');
+        }
+        Ok(format!("{}states: {} calls, no difference", lines, calls))
+    }
+}
+
+struct Bench {
+    library: Buffers,
+    model: Buffers,
+    counts: Counts,
+}
+
+impl Bench {
+    fn new() -> Bench {
+        Bench { library: Buffers::zero(), model: Buffers::zero(), counts: Counts::default() }
+    }
+
+    fn clear(&mut self) {
+        self.library = Buffers::zero();
+        self.model = Buffers::zero();
+    }
+
+    fn fill(&mut self, rng: &mut Rng) {
+        self.library.fill(rng);
+        self.model.copy(&self.library);
+    }
+
+    fn store(&mut self, address: u16, bytes: &[u8]) {
+        self.library.store(address, bytes);
+        self.model.store(address, bytes);
+    }
+
+    /// Has both sides answer. Gives the number and the device afterwards, or
+    /// the whole case if they differ.
+    fn call(&mut self, device: Device, call: Call) -> Result<(u8, Device), String> {
+        let (library, after) = by_library(device, call, &mut self.library);
+        let model = by_model(device, call, &mut self.model);
+        let lends = matches!(call, Call::Grant { .. });
+        if library != model || (lends && self.library != self.model) {
+            return Err(self.difference(device, call, &library, &model));
+        }
+        self.counts.of(call)[usize::from(model.number)] += 1;
+        Ok((library.number, after))
+    }
+
+    fn difference(&self, device: Device, call: Call, library: &Answer, model: &Answer) -> String {
+        let mut lines = format!(
+            "{:?}\nbefore:  {:?}\nlibrary: {:?}\nmodel:   {:?}\n",
+            call, device, library, model
+        );
+        for (name, ours, theirs) in [
+            ("memory", &self.library.memory, &self.model.memory),
+            ("latches", &self.library.latches, &self.model.latches),
+        ] {
+            let differ: Vec<usize> = (0..LONGEST).filter(|&k| ours[k] != theirs[k]).collect();
+            lines.push_str(&format!("{}: {} bytes differ\n", name, differ.len()));
+            for &k in differ.iter().take(8) {
+                lines.push_str(&format!(
+                    "  at {:04X}: library {:02X}, model {:02X}\n",
+                    k, ours[k], theirs[k]
+                ));
+            }
+        }
+        lines
+    }
+}
+
+// ---- Made devices --------------------------------------------------------
+
+/// Half of them from the edges.
+fn byte(rng: &mut Rng) -> u8 {
+    const EDGES: [u8; 18] = [0, 1, 2, 3, 4, 5, 6, 7, 8, 9, 10, 11, 126, 127, 128, 129, 254, 255];
+    if rng.chance(1, 2) {
+        rng.pick(&EDGES)
+    } else {
+        rng.byte()
+    }
+}
+
+/// Half of them from the edges: of addresses, lengths and slots.
+fn word(rng: &mut Rng) -> u16 {
+    const EDGES: [u16; 24] = [
+        0, 1, 2, 3, 4, 5, 7, 8, 9, 16, 31, 32, 33, 48, 64, 0x00FF, 0x0100, 8_128, 8_159, 8_160,
+        8_161, 8_192, 0xFFFE, 0xFFFF,
+    ];
+    if rng.chance(1, 2) {
+        rng.pick(&EDGES)
+    } else {
+        rng.word()
+    }
+}
+
+/// For a block count: about it, about the largest, or anything.
+fn any_counter(rng: &mut Rng, count: u32) -> u32 {
+    match rng.below(4) {
+        0 => count.saturating_sub(rng.below(4)),
+        1 => count + rng.below(2),
+        2 => rng.pick(&[0, 1, 0xFFFF, 0x1_0000, 0x1_0001, u32::MAX]),
+        _ => rng.next() as u32,
+    }
+}
+
+fn any_count(rng: &mut Rng) -> u64 {
+    let near = u64::from(rng.below(5));
+    match rng.below(5) {
+        0 => near,
+        1 => u64::MAX - near,
+        2 => (1 << 63) - 2 + near,
+        3 => (1 << 32) - 2 + near,
+        _ => rng.next(),
+    }
+}
+
+fn block_count(block: &Block) -> u32 {
+    u32::from(block.length) + u32::from(block.zilog)
+}
+
+const PORT_FIELDS: u32 = 5;
+const FIELDS: u32 = 2 * PORT_FIELDS + 24;
+
+fn set_port_field(rng: &mut Rng, port: &mut Port, field: u32) {
+    match field {
+        0 => port.address = word(rng),
+        1 => port.pointer = word(rng),
+        2 => port.io = rng.chance(1, 2),
+        3 => port.step = byte(rng),
+        _ => port.cycle = byte(rng),
+    }
+}
+
+/// One field gets any value of its type.
+fn set_field(rng: &mut Rng, device: &mut Device, field: u32) {
+    let Device { core, clocks } = device;
+    match field {
+        0 => core.block.length = word(rng),
+        1 => core.block.counter = any_counter(rng, block_count(&core.block)),
+        2 => core.block.zilog = rng.chance(1, 2),
+        3 => core.control.forward = rng.chance(1, 2),
+        4 => core.control.prescaler = byte(rng),
+        5 => core.control.burst = rng.chance(1, 2),
+        6 => core.control.restart = rng.chance(1, 2),
+        7 => core.status.e = rng.chance(1, 2),
+        8 => core.status.t = rng.chance(1, 2),
+        9 => core.readback.mask = byte(rng),
+        10 => core.readback.position = byte(rng),
+        11 => core.readback.waiting = rng.chance(1, 2),
+        12 => core.pending.first = byte(rng),
+        13 => core.pending.second = byte(rng),
+        14 => core.pending.third = byte(rng),
+        15 => core.pending.fourth = byte(rng),
+        16 => core.enabled = rng.chance(1, 2),
+        17 => core.slot.elapsed = word(rng),
+        18 => core.slot.bus = word(rng),
+        19 => core.slot.length = word(rng),
+        20 => core.slot.burst = rng.chance(1, 2),
+        21 => clocks.bus = any_count(rng),
+        22 => clocks.held = any_count(rng),
+        23 => clocks.cpu = any_count(rng),
+        _ if field < 24 + PORT_FIELDS => set_port_field(rng, &mut core.a, field - 24),
+        _ => set_port_field(rng, &mut core.b, field - 24 - PORT_FIELDS),
+    }
+}
+
+fn any_device(rng: &mut Rng) -> Device {
+    let mut device = Device::power_on();
+    for field in 0..FIELDS {
+        set_field(rng, &mut device, field);
+    }
+    device
+}
+
+fn valid_port(rng: &mut Rng) -> Port {
+    Port {
+        address: word(rng),
+        pointer: word(rng),
+        io: rng.chance(1, 3),
+        step: if rng.chance(1, 8) { byte(rng) } else { rng.below(4) as u8 },
+        cycle: rng.between(2, 4) as u8,
+    }
+}
+
+/// One of the sequences that registers ask for, or a tail of it.
+fn valid_pending(rng: &mut Rng) -> Pending {
+    let mut codes: Vec<u8> = match rng.below(4) {
+        0 => Vec::new(),
+        1 => (1..=4).filter(|_| rng.chance(1, 2)).collect(),
+        2 => (8..=9).filter(|_| rng.chance(1, 2)).collect(),
+        _ => vec![rng.pick(&[5, 6, 7, 10])],
+    };
+    codes.resize(4, 0);
+    Pending { first: codes[0], second: codes[1], third: codes[2], fourth: codes[3] }
+}
+
+const NO_SLOT: Slot = Slot { elapsed: 0, bus: 0, length: 0, burst: false };
+
+/// A running slot, most often about the end of its bus time or its own.
+fn running_slot(rng: &mut Rng) -> Slot {
+    let bus = rng.between(4, 8) as u16;
+    let any = rng.between(1, 255) as u16;
+    let length = if rng.chance(1, 3) { bus } else { 32 * rng.pick(&[1, 1, 2, 3, 55, 255, any]) };
+    let any = rng.between(1, u32::from(length) - 1) as u16;
+    let elapsed =
+        rng.pick(&[1, bus - 1, bus, bus + 1, length - 2, length - 1, any]).min(length - 1);
+    Slot { elapsed, bus, length, burst: rng.chance(1, 2) }
+}
+
+/// Clock counts whose sum fits: small, just below 64 bits, or anything.
+fn valid_clocks(rng: &mut Rng) -> Clocks {
+    let sum = match rng.below(6) {
+        0 => 0,
+        1 => u64::MAX - u64::from(rng.below(40)),
+        2 => u64::MAX - u64::from(rng.below(20_000)),
+        3 => u64::MAX - u64::from(u32::MAX) + 1 - u64::from(rng.below(3)),
+        4 => u64::from(rng.below(1_000_000)),
+        _ => rng.next(),
+    };
+    let bus = part(rng, sum);
+    let held = part(rng, sum - bus);
+    Clocks { bus, held, cpu: sum - bus - held }
+}
+
+/// None, all, or some of a number.
+fn part(rng: &mut Rng, number: u64) -> u64 {
+    let some = rng.next() % number.max(1);
+    rng.pick(&[0, number, some])
+}
+
+fn valid_device(rng: &mut Rng) -> Device {
+    let a = valid_port(rng);
+    let mut b = valid_port(rng);
+    if rng.chance(1, 3) {
+        // Overlapping blocks.
+        b.pointer = a.pointer.wrapping_add(rng.below(9) as u16).wrapping_sub(4);
+        b.io = a.io;
+    }
+    let slot = if rng.chance(1, 2) { running_slot(rng) } else { NO_SLOT };
+    let enabled = slot.elapsed > 0 || rng.chance(1, 2);
+    let length = if rng.chance(1, 2) { rng.below(5) as u16 } else { word(rng) };
+    let mut block = Block { length, counter: 0, zilog: rng.chance(1, 2) };
+    block.counter = any_counter(rng, block_count(&block)).min(65_536);
+    // A device that has a byte to move has not finished its block.
+    if enabled && (slot.elapsed == 0 || slot.elapsed < slot.bus) {
+        block.length = block.length.max(1);
+        block.counter = block.counter.min(block_count(&block) - 1);
+    }
+    let core = Core {
+        a,
+        b,
+        block,
+        control: Control {
+            forward: rng.chance(1, 2),
+            prescaler: if rng.chance(1, 2) { 0 } else { byte(rng) },
+            burst: rng.chance(1, 2),
+            restart: rng.chance(1, 2),
+        },
+        status: Status { e: rng.chance(1, 2), t: rng.chance(1, 2) },
+        readback: Readback {
+            mask: if rng.chance(1, 8) { 0 } else { byte(rng) & 0x7F },
+            position: rng.below(7) as u8,
+            waiting: rng.chance(1, 4),
+        },
+        pending: valid_pending(rng),
+        enabled,
+        slot,
+    };
+    Device { core, clocks: valid_clocks(rng) }
+}
+
+/// A valid device, one with a few fields changed, one with any content, or
+/// the one that the last accepted call left.
+fn made_device(rng: &mut Rng, last: Device) -> Device {
+    match rng.below(10) {
+        0..=3 => last,
+        4..=6 => valid_device(rng),
+        7 | 8 => {
+            let mut device = valid_device(rng);
+            for _ in 0..rng.between(1, 3) {
+                let field = rng.below(FIELDS);
+                set_field(rng, &mut device, field);
+            }
+            device
+        }
+        _ => any_device(rng),
+    }
+}
+
+// ---- Made calls ----------------------------------------------------------
+
+fn made_port(rng: &mut Rng) -> u16 {
+    if rng.chance(1, 8) {
+        rng.word()
+    } else {
+        u16::from_be_bytes([rng.byte(), rng.pick(&[0x6B, 0x0B])])
+    }
+}
+
+/// Half of them commands.
+fn made_byte(rng: &mut Rng) -> u8 {
+    const COMMANDS: [u8; 14] =
+        [0x83, 0x87, 0x87, 0xC0, 0x80, 0xC3, 0xC7, 0xCB, 0xCF, 0xD3, 0x8B, 0xBF, 0xA7, 0xBB];
+    if rng.chance(1, 2) {
+        rng.pick(&COMMANDS)
+    } else {
+        rng.byte()
+    }
+}
+
+fn made_length(rng: &mut Rng) -> usize {
+    if rng.chance(9, 10) {
+        return SIZE;
+    }
+    let any = rng.below(LONGEST as u32) as usize;
+    rng.pick(&[0, 1, 255, 256, SIZE - 1, SIZE + 1, LONGEST, any])
+}
+
+/// Both sides take every clock: an accepted grant has few of them.
+fn made_clocks(rng: &mut Rng, device: Device, room: u128) -> u32 {
+    let slot = device.core.slot;
+    if room < u128::from(u32::MAX) && rng.chance(1, 3) {
+        // More than there is room for.
+        let least = room as u32 + 1;
+        return rng.pick(&[least, u32::MAX]);
+    }
+    if room < 20_000 && rng.chance(1, 2) {
+        return room as u32;
+    }
+    match rng.below(1_000) {
+        0..=99 => rng.below(3),
+        100..=499 => rng.below(40),
+        // About the end of the slot, of its bus time, or of the next one.
+        500..=599 => u32::from(slot.length.saturating_sub(slot.elapsed)) + rng.below(12),
+        600..=699 => u32::from(slot.bus.saturating_sub(slot.elapsed)) + rng.below(3),
+        700..=979 => rng.below(600),
+        980..=998 => rng.below(10_000),
+        _ => rng.below(100_000),
+    }
+}
+
+fn made_grant(rng: &mut Rng, device: Device) -> Call {
+    let (memory, latches) = (made_length(rng), made_length(rng));
+    let before = model_of(device);
+    let clocks = if !model::valid(&before) || memory != SIZE || latches != SIZE {
+        let any = rng.next() as u32;
+        rng.pick(&[0, 1, 16, u32::MAX, any])
+    } else {
+        made_clocks(rng, device, u128::from(u64::MAX) - model::books_sum(&before))
+    };
+    Call::Grant { memory, latches, clocks }
+}
+
+fn made_call(rng: &mut Rng, device: Device) -> Call {
+    match rng.below(10) {
+        0..=2 => Call::Write { port: made_port(rng), byte: made_byte(rng) },
+        3..=5 => Call::Read { port: made_port(rng) },
+        6..=8 => made_grant(rng, device),
+        _ => Call::Valid,
+    }
+}
+
+/// New buffers after so many calls.
+const CALLS_OF_A_FILL: u64 = 4_096;
+
+fn made_calls(bench: &mut Bench, seed: u64, calls: u64) -> Result<(), String> {
+    let mut rng = Rng::new(seed);
+    let (_, mut last) = bench.call(Device::power_on(), Call::PowerOn)?;
+    for number in 0..calls {
+        if number % CALLS_OF_A_FILL == 0 {
+            bench.fill(&mut rng);
+        }
+        let device = made_device(&mut rng, last);
+        let call = made_call(&mut rng, device);
+        let place = |case| format!("seed {}, call {}: {}", seed, number, case);
+        let (answered, after) = bench.call(device, call).map_err(place)?;
+        if answered == 0 && !matches!(call, Call::Valid) {
+            last = after;
+        }
+    }
+    Ok(())
+}
+
+// ---- Sessions ------------------------------------------------------------
+
+/// The content of a session's next record, kind first, and what is behind it.
+fn next_record(rest: &[u8]) -> Option<(&[u8], &[u8])> {
+    let length = u16::from_be_bytes([*rest.first()?, *rest.get(1)?]);
+    let end = 2 + usize::from(length);
+    Some((rest.get(2..end)?, &rest[end..]))
+}
+
+/// A session's records, up to its end or to the first fault.
+fn run_session(bench: &mut Bench, session: &[u8]) -> Result<(), String> {
+    bench.clear();
+    let (_, mut device) = bench.call(Device::power_on(), Call::PowerOn)?;
+    let mut rest = session.strip_prefix(&[1]).unwrap_or(&[]);
+    while let Some((content, behind)) = next_record(rest) {
+        rest = behind;
+        let call = match *content {
+            [1, high, low, byte] => Call::Write { port: u16::from_be_bytes([high, low]), byte },
+            [2, high, low] => Call::Read { port: u16::from_be_bytes([high, low]) },
+            [3, b3, b2, b1, b0] => {
+                let clocks = u32::from_be_bytes([b3, b2, b1, b0]);
+                Call::Grant { memory: SIZE, latches: SIZE, clocks }
+            }
+            [4, high, low, ref bytes @ ..] if (1..=255).contains(&bytes.len()) => {
+                bench.store(u16::from_be_bytes([high, low]), bytes);
+                continue;
+            }
+            _ => break,
+        };
+        device = bench.call(device, call)?.1;
+    }
+    Ok(())
+}
+
+fn made_sessions(bench: &mut Bench, seed: u64, sessions: u64) -> Result<(), String> {
+    for number in 0..sessions {
+        let session = generate::session(&mut Rng::numbered(seed, number));
+        let place = |case| format!("seed {}, session {}: {}", seed, number, case);
+        run_session(bench, &session).map_err(place)?;
+    }
+    Ok(())
+}
+
+/// Pairs of hex digits, blanks anywhere, comments from '#' to the line's end.
+fn session_bytes(text: &str) -> Result<Vec<u8>, String> {
+    let code: String = text.lines().filter_map(|line| line.split('#').next()).collect();
+    let digits: Option<Vec<u8>> =
+        code.chars().filter(|c| !c.is_whitespace()).map(|c| Some(c.to_digit(16)? as u8)).collect();
+    let digits = digits.ok_or("not hex digits")?;
+    if digits.len() % 2 != 0 {
+        return Err("an odd number of hex digits".into());
+    }
+    Ok(digits.chunks(2).map(|pair| 16 * pair[0] + pair[1]).collect())
+}
+
+fn stored_session(bench: &mut Bench, path: &str) -> Result<(), String> {
+    let place = |fault: String| format!("{}: {}", path, fault);
+    let text = std::fs::read_to_string(path).map_err(|error| place(error.to_string()))?;
+    let session = session_bytes(&text).map_err(place)?;
+    run_session(bench, &session).map_err(place)
+}
+
+// ---- The program ---------------------------------------------------------
+
+struct Options {
+    calls: u64,
+    sessions: u64,
+    seeds: Vec<u64>,
+    paths: Vec<String>,
+}
+
+/// The options, or what is wrong with them.
+fn options(mut words: impl Iterator<Item = String>) -> Result<Options, String> {
+    let mut options =
+        Options { calls: 1_000_000, sessions: 300, seeds: Vec::new(), paths: Vec::new() };
+    while let Some(word) = words.next() {
+        if !word.starts_with("--") {
+            options.paths.push(word);
+            continue;
+        }
+        let value = words.next().ok_or(format!("{} asks for a number", word))?;
+        let number = value.parse().map_err(|_| format!("{}: {} is not a number", word, value))?;
+        match word.as_str() {
+            "--calls" => options.calls = number,
+            "--sessions" => options.sessions = number,
+            "--seed" => options.seeds.push(number),
+            _ => return Err(format!("{} is not an option", word)),
+        }
+    }
+    if options.seeds.is_empty() {
+        options.seeds.push(1);
+    }
+    Ok(options)
+}
+
+fn compare(options: &Options) -> Result<String, String> {
+    let mut bench = Bench::new();
+    for path in &options.paths {
+        stored_session(&mut bench, path)?;
+    }
+    println!("states: {} stored sessions", options.paths.len());
+    for &seed in &options.seeds {
+        println!("states: seed {}: {} calls, {} sessions", seed, options.calls, options.sessions);
+        made_calls(&mut bench, seed, options.calls)?;
+        made_sessions(&mut bench, seed, options.sessions)?;
+    }
+    bench.counts.summary()
+}
+
+fn main() -> ExitCode {
+    let words: Vec<String> = std::env::args().skip(1).collect();
+    if words.iter().any(|word| word == "--help") {
+        println!("{}", USAGE);
+        return ExitCode::SUCCESS;
+    }
+    let options = match options(words.into_iter()) {
+        Ok(options) => options,
+        Err(fault) => {
+            eprintln!("states: {}\n{}", fault, USAGE);
+            return ExitCode::from(2);
+        }
+    };
+    match compare(&options) {
+        Ok(summary) => {
+            println!("{}", summary);
+            ExitCode::SUCCESS
+        }
+        Err(fault) => {
+            eprintln!("states: FAILED: {}", fault);
+            ExitCode::FAILURE
+        }
+    }
+}
