@@ -3,3 +3,4 @@ pub mod Poking
 pub mod Carrying
 pub mod Saying
 pub mod Room
+pub mod Runs

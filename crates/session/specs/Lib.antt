@@ -2,3 +2,4 @@ pub mod Records
 pub mod Lines
 pub mod Effects
 pub mod Steps
+pub mod Sessions

@@ -1,0 +1,87 @@
+-- A whole session: its bytes in; its lines, its fault, and device and buffers at the end out. It begins at power-on with
+-- memory and latches of 65,536 zeros.
+-- Assumes nothing.
+use Prim.Native.Nat.{ℕ, zero, suc}
+use mathlib.Core.Path.{_≡_}
+use mathlib.Core.Bool.{true}
+use mathlib.Core.List.{List, [], _∷_, _++_}
+use lib.Dec.{eqb, leb}
+use lib.ListN.{length, getD, replicate}
+use Rattle.rules.specs.Choice.{pick}
+use Rattle.rules.specs.Buffers.{flat}
+use Rattle.rules.specs.World.{System}
+use Rattle.rules.specs.Calls.{Answer}
+use Rattle.rules.specs.Entries.{Poke, flatOutside, Entry, Answered, Run, run, systemAtPowerOn}
+use Rattle.session.specs.Records.{recordAt}
+use Rattle.session.specs.Lines.{recordLine, countsLine, faultLine}
+use Rattle.session.specs.Effects.{entryOf, effect}
+use Rattle.session.specs.declared.parse.Record.{Record}
+
+-- what a session comes to: the bytes of its lines, its fault or 0, and device and buffers at the end
+pub record Ended : Type 0 where
+  pub lines : List ℕ
+  pub fault : ℕ
+  pub system : System (List ℕ)
+
+abbrev pub start : System (List ℕ)
+start = systemAtPowerOn (replicate 65536 0) (replicate 65536 0)
+
+-- ---- the session as it is read, record by record
+
+abbrev pub endedBy : List ℕ → ℕ → System (List ℕ) → Ended
+endedBy line fault s = record { lines = line; fault = fault; system = s }
+
+abbrev pub lineBefore : List ℕ → Ended → Ended
+lineBefore line e = record { lines = line ++ e .lines; fault = e .fault; system = e .system }
+
+-- the records from place p on, of which there are at most so many: each takes bytes, and where there is one for each byte,
+-- none is left behind them
+unfoldable pub recordsFrom : ℕ → List ℕ → ℕ → System (List ℕ) → Ended
+recordsFrom zero xs p s = endedBy (countsLine (s .clocks)) 0 s
+recordsFrom (suc most) xs p s =
+    let r : Record = recordAt xs p true in
+    let a : Answer (List ℕ) = effect xs r s in
+    pick (eqb (r .number) 5) (endedBy (countsLine (s .clocks)) 0 s)
+    (pick (leb 20 (r .number)) (endedBy (faultLine (r .number)) (r .number) s)
+    (lineBefore (recordLine (r .number) (a .number) (a .byte)) (recordsFrom most xs (r .next) (a .system))))
+
+-- a session: the version byte, 1, and the records behind it
+unfoldable pub session : List ℕ → Ended
+session xs = pick (eqb (getD xs 0 0) 1) (recordsFrom (length xs) xs 1 start) (endedBy (faultLine 20) 20 start)
+
+-- ---- the session as a list of calls
+
+-- the records of a session, up to its end or its fault
+unfoldable pub decodedFrom : ℕ → List ℕ → ℕ → List Record
+decodedFrom zero xs p = []
+decodedFrom (suc most) xs p =
+    let r : Record = recordAt xs p true in
+    pick (eqb (r .number) 5) [] (pick (leb 20 (r .number)) [] (r ∷ decodedFrom most xs (r .next)))
+
+unfoldable pub decoded : List ℕ → List Record
+decoded xs = pick (eqb (getD xs 0 0) 1) (decodedFrom (length xs) xs 1) []
+
+-- their entries
+unfoldable pub entriesOf : List ℕ → List Record → List (Entry flat (List Poke))
+entriesOf xs [] = []
+entriesOf xs (r ∷ rs) = entryOf xs r ∷ entriesOf xs rs
+
+-- the run of a session's calls, from power-on
+abbrev pub runOf : List ℕ → Run (List ℕ)
+runOf xs = run flat flatOutside (entriesOf xs (decoded xs)) start
+
+-- the lines of records, by their kinds and their answers
+unfoldable pub linesOf : List Record → List Answered → List ℕ
+linesOf [] answers = []
+linesOf (r ∷ rs) [] = []
+linesOf (r ∷ rs) (a ∷ answers) = recordLine (r .number) (a .number) (a .byte) ++ linesOf rs answers
+
+-- the last line
+unfoldable pub lastLine : ℕ → System (List ℕ) → List ℕ
+lastLine fault s = pick (eqb fault 0) (countsLine (s .clocks)) (faultLine fault)
+
+-- a session is the run of its calls: device and buffers at the end are the run's, and the lines are those of the run's
+-- answers, in order, and the last one
+pub record SessionRuns (xs : List ℕ) : Type 0 where
+  pub system : session xs .system ≡ runOf xs .system
+  pub lines : session xs .lines ≡ linesOf (decoded xs) (runOf xs .answers) ++ lastLine (session xs .fault) (runOf xs .system)
