@@ -4,3 +4,4 @@ pub mod Carrying
 pub mod Saying
 pub mod Room
 pub mod Runs
+pub mod Stepping

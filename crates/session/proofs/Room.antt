@@ -19,10 +19,10 @@ use Rattle.session.specs.declared.step.Session.{Session}
 use Rattle.session.specs.declared.step.Step.{Step}
 use Rattle.session.proofs.Putting.{decimal-most}
 
-number-room : (letter n : ℕ) → length (numberLine letter n) ≤ 72
+pub number-room : (letter n : ℕ) → length (numberLine letter n) ≤ 72
 number-room letter n = omega (arith, length-append (decimal n) (10 ∷ []), decimal-most 20 n)
 
-record-room : (kind number byte : ℕ) → length (recordLine kind number byte) ≤ 72
+pub record-room : (kind number byte : ℕ) → length (recordLine kind number byte) ≤ 72
 unfolding recordLine readLine
 record-room kind number byte =
     pick-both (λ (xs : List ℕ). length xs ≤ 72) (eqb kind 1) _ _ (number-room 87 number)
@@ -30,7 +30,7 @@ record-room kind number byte =
     (pick-both (λ (xs : List ℕ). length xs ≤ 72) (eqb number 0) _ _ (omega arith) (number-room 82 number))
     (pick-both (λ (xs : List ℕ). length xs ≤ 72) (eqb kind 3) _ _ (number-room 71 number) (number-room 77 number)))
 
-counts-room : (k : Clocks) → length (countsLine k) ≤ 72
+pub counts-room : (k : Clocks) → length (countsLine k) ≤ 72
 counts-room k =
     simp length-append (omega (arith, decimal-most 20 (k .bus), decimal-most 20 (k .held), decimal-most 20 (k .cpu)))
 

@@ -47,7 +47,7 @@ agrees-more xs s r e rs h =
     }
 
 -- two choices by one test
-both {κ} : {X Y : Type 0} (P : X → Y → Type κ) (t : Bool) (x x′ : X) (y y′ : Y) → (t ≡ true → P x y) → (t ≡ false → P x′ y′) → P (pick t x x′) (pick t y y′)
+pub both {κ} : {X Y : Type 0} (P : X → Y → Type κ) (t : Bool) (x x′ : X) (y y′ : Y) → (t ≡ true → P x y) → (t ≡ false → P x′ y′) → P (pick t x x′) (pick t y y′)
 unfolding pick
 both P true x x′ y y′ f g = f refl
 both P false x x′ y y′ f g = g refl

@@ -1,21 +1,23 @@
 -- A whole session: its bytes in; its lines, its fault, and device and buffers at the end out. It begins at power-on with
 -- memory and latches of 65,536 zeros.
 -- Assumes nothing.
-use Prim.Native.Nat.{ℕ, zero, suc}
+use Prim.Native.Nat.{ℕ, zero, suc, _≤_}
 use mathlib.Core.Path.{_≡_}
 use mathlib.Core.Bool.{true}
 use mathlib.Core.List.{List, [], _∷_, _++_}
 use lib.Dec.{eqb, leb}
-use lib.ListN.{length, getD, replicate}
+use lib.ListN.{length, getD, take, replicate}
 use Rattle.rules.specs.Choice.{pick}
-use Rattle.rules.specs.Buffers.{flat}
+use Rattle.rules.specs.Buffers.{Buffers, flat}
 use Rattle.rules.specs.World.{System}
 use Rattle.rules.specs.Calls.{Answer}
 use Rattle.rules.specs.Entries.{Poke, flatOutside, Entry, Answered, Run, run, systemAtPowerOn}
 use Rattle.session.specs.Records.{recordAt}
 use Rattle.session.specs.Lines.{recordLine, countsLine, faultLine}
 use Rattle.session.specs.Effects.{entryOf, effect}
+use Rattle.session.specs.Steps.{Outcome, sessionAtStart, beside, stepOf}
 use Rattle.session.specs.declared.parse.Record.{Record}
+use Rattle.session.specs.declared.step.Session.{Session}
 
 -- what a session comes to: the bytes of its lines, its fault or 0, and device and buffers at the end
 pub record Ended : Type 0 where
@@ -85,3 +87,30 @@ lastLine fault s = pick (eqb fault 0) (countsLine (s .clocks)) (faultLine fault)
 pub record SessionRuns (xs : List ℕ) : Type 0 where
   pub system : session xs .system ≡ runOf xs .system
   pub lines : session xs .lines ≡ linesOf (decoded xs) (runOf xs .answers) ++ lastLine (session xs .fault) (runOf xs .system)
+
+-- ---- the session as it is read by steps
+
+-- the line that a step wrote
+abbrev pub lineIn : Outcome → List ℕ
+lineIn o = take (o .said .step .length) (o .said .line)
+
+-- device and buffers after a step
+abbrev pub systemIn : Outcome → System (List ℕ)
+systemIn o = beside (o .said .step .session .device) (o .buffers)
+
+-- steps with all bytes at hand, at most so many, until the session is over; `out` is the slice for the lines
+unfoldable pub stepsFrom : ℕ → Session → List ℕ → ℕ → List ℕ → Buffers (List ℕ) → Ended
+stepsFrom zero s xs p out b = endedBy [] 0 (beside (s .device) b)
+stepsFrom (suc most) s xs p out b =
+    let o : Outcome = stepOf s xs p true out b in
+    pick (eqb (o .said .step .number) 2) (endedBy (lineIn o) (o .said .step .fault) (systemIn o))
+    (lineBefore (lineIn o)
+    (stepsFrom most (o .said .step .session) xs (o .said .step .next) (o .said .line) (o .buffers)))
+
+-- a session read by steps, with any slice that has room for a line, is the session: its lines, its fault, device and
+-- buffers
+abbrev pub StepsRead : List ℕ → Type 0
+StepsRead xs =
+    (out : List ℕ)
+    → 72 ≤ length out
+    → stepsFrom (suc (suc (suc (length xs)))) sessionAtStart xs 0 out (start .world .buffers) ≡ session xs

@@ -1,0 +1,335 @@
+-- A session read by steps is the session: each record is a step, the last line is a step, and a record that is too long
+-- for any kind is two.
+-- Assumes nothing.
+use Prim.Native.Nat.{ℕ, zero, suc, _+_, _-_, _≤_, _<_}
+use native.Mathlib.Omega.{arith}
+use native.Mathlib.Numerals.{add-one}
+use mathlib.Core.Path.{_≡_, refl, sym, ap, _∙_}
+use mathlib.Core.Bool.{Bool, true, false}
+use mathlib.Core.List.{List, [], _∷_, _++_, append-assoc, append-nil}
+use borrow.Author.Tests.{le-leb, lt-leb, leb-true, leb-false, lt-ltb, le-ltb, ltb-true, ltb-false, eq-eqb, ne-eqb, eqb-true, eqb-false}
+use lib.Dec.{eqb, leb, ltb}
+use lib.ListN.{length, getD, take, set, length-set, List·getD-eq-default}
+use lib.Seq.{take-suc-set}
+use Rattle.rules.specs.Choice.{pick}
+use Rattle.rules.specs.Buffers.{Buffers, placed}
+use Rattle.rules.specs.World.{System}
+use Rattle.rules.specs.Calls.{Answer}
+use Rattle.rules.proofs.Choice.{pick-true, pick-false, pick-both, pick-cases, either, clash}
+use Rattle.zxndma.specs.Answers.{deviceAtPowerOn}
+use Rattle.zxndma.specs.declared.Device.{Device}
+use Rattle.session.specs.Records.{none, short, behind, word, writeRecord, readRecord, grantRecord, memoryRecord, ofKind, recordAt, longLength}
+use Rattle.session.specs.Lines.{recordLine, countsLine, faultLine}
+use Rattle.session.specs.Effects.{effect}
+use Rattle.session.specs.Steps.{Said, Outcome, inPhase, sessionAtStart, deviceOf, beside, carried, ending, faulty, silent, aside, versionStep, longStep, byRecord, recordStep, stepOf}
+use Rattle.session.specs.Sessions.{Ended, endedBy, lineBefore, recordsFrom, session, start, lineIn, systemIn, stepsFrom, StepsRead}
+use Rattle.session.specs.declared.parse.Record.{Record}
+use Rattle.session.specs.declared.step.Session.{Session}
+use Rattle.session.proofs.Runs.{both}
+use Rattle.session.proofs.Room.{number-room, record-room, counts-room}
+
+-- ---- the line that was put is the line that is taken
+
+placed-taken : (at : ℕ) (bytes l : List ℕ) → at + length bytes ≤ length l → take (at + length bytes) (placed at bytes l) ≡ take at l ++ bytes
+unfolding placed
+placed-taken at [] l h = ap (λ (n : ℕ). take n l) (let z : at + 0 ≡ at = omega arith in z) ∙ sym (append-nil (take at l))
+placed-taken at (x ∷ bytes) l h =
+    ap
+    (λ (n : ℕ). take n (placed (at + 1) bytes (set l at x)))
+    (let z : at + suc (length bytes) ≡ at + 1 + length bytes = omega arith in z)
+    ∙ placed-taken (at + 1) bytes (set l at x) (omega (arith, length-set l at x))
+    ∙ ap (λ (n : ℕ). take n (set l at x) ++ bytes) (add-one at)
+    ∙ ap (λ (t : List ℕ). t ++ bytes) (take-suc-set l at x (omega arith))
+    ∙ append-assoc (take at l) (x ∷ []) bytes
+
+put-taken : (bytes out : List ℕ) → length bytes ≤ length out → take (length bytes) (placed 0 bytes out) ≡ bytes
+put-taken bytes out h =
+    ap (λ (n : ℕ). take n (placed 0 bytes out)) (let z : length bytes ≡ 0 + length bytes = omega arith in z)
+    ∙ placed-taken 0 bytes out (omega arith)
+
+placed-size : (at : ℕ) (bytes l : List ℕ) → length (placed at bytes l) ≡ length l
+unfolding placed
+placed-size at [] l = refl
+placed-size at (x ∷ bytes) l = placed-size (at + 1) bytes (set l at x) ∙ length-set l at x
+
+-- ---- what can stand at a place where the input has ended
+
+-- a record there takes bytes
+record Stands (p : ℕ) (r : Record) : Type 0 where
+  some : 0 < r .number
+  takes : (r .number ≡ 5 → ⊥) → (20 ≤ r .number → ⊥) → p < r .next
+
+no-record : (p number : ℕ) → 20 ≤ number → Stands p (none number p)
+no-record p number h = record { some = omega arith; takes = λ e f. absurd (f h) }
+
+module _ (xs : List ℕ) (p : ℕ) where
+  stands-kind : (n k : ℕ) → Stands p (ofKind xs p n k)
+  unfolding ofKind writeRecord readRecord grantRecord memoryRecord
+  stands-kind n k =
+      pick-both (Stands p) _ _ _
+      (pick-both (Stands p) _ _ _ (record { some = omega arith; takes = λ e f. omega arith }) (no-record p 22 (omega arith)))
+      (pick-both (Stands p) _ _ _
+      (pick-both (Stands p) _ _ _ (record { some = omega arith; takes = λ e f. omega arith }) (no-record p 22 (omega arith)))
+      (pick-both (Stands p) _ _ _
+      (pick-both (Stands p) _ _ _ (record { some = omega arith; takes = λ e f. omega arith }) (no-record p 22 (omega arith)))
+      (pick-both (Stands p) _ _ _
+      (pick-both (Stands p) _ _ _ (no-record p 22 (omega arith))
+      (pick-both (Stands p) _ _ _ (no-record p 22 (omega arith)) (record { some = omega arith; takes = λ e f. omega arith })))
+      (no-record p 22 (omega arith)))))
+
+  stands-short : Stands p (short true p)
+  unfolding short pick
+  stands-short = no-record p 21 (omega arith)
+
+  stands-behind : Stands p (behind true p)
+  unfolding behind pick
+  stands-behind = record { some = omega arith; takes = λ e f. absurd (e refl) }
+
+  stands : Stands p (recordAt xs p true)
+  unfolding recordAt
+  stands =
+      pick-both (Stands p) _ _ _ stands-behind
+      (pick-both (Stands p) _ _ _ stands-short
+      (pick-both (Stands p) _ _ _ stands-short
+      (pick-both (Stands p) _ _ _ (no-record p 22 (omega arith)) (stands-kind (word xs p) (getD xs (p + 2) 0)))))
+
+  -- behind the last byte stands the end
+  at-end : length xs ≤ p → recordAt xs p true ≡ none 5 p
+  unfolding recordAt behind pick
+  at-end h = simp (le-leb (length xs) p h)
+
+  short-end : length xs ≤ p → longLength xs p ≡ 0
+  unfolding longLength pick
+  short-end h = simp (le-leb (length xs) p h)
+
+  -- ---- a record that is too long for any kind
+
+  kind-long : (n k : ℕ) → 258 < n → ofKind xs p n k ≡ none 22 p
+  unfolding ofKind writeRecord readRecord grantRecord memoryRecord
+  kind-long n k h =
+      pick-both (λ (r : Record). r ≡ none 22 p) _ _ _ (pick-false _ _ _ (ne-eqb n 4 (λ e. omega (arith, e))))
+      (pick-both (λ (r : Record). r ≡ none 22 p) _ _ _ (pick-false _ _ _ (ne-eqb n 3 (λ e. omega (arith, e))))
+      (pick-both (λ (r : Record). r ≡ none 22 p) _ _ _ (pick-false _ _ _ (ne-eqb n 5 (λ e. omega (arith, e))))
+      (pick-both (λ (r : Record). r ≡ none 22 p) _ _ _
+      (pick-both (λ (r : Record). r ≡ none 22 p) _ _ _ refl (pick-true _ _ _ (lt-ltb 258 n h)))
+      refl)))
+
+  -- its length is at hand, and it is the word there
+  record Long (n : ℕ) : Type 0 where
+    there : p + 1 < length xs
+    most : 258 < word xs p
+    size : n ≡ word xs p
+
+  long : (longLength xs p ≡ 0 → ⊥) → Long (longLength xs p)
+  unfolding longLength
+  long =
+      pick-cases (λ (n : ℕ). (n ≡ 0 → ⊥) → Long n) _ _ _ (λ e f. absurd (f refl))
+      (λ e. pick-cases (λ (n : ℕ). (n ≡ 0 → ⊥) → Long n) _ _ _ (λ g f. absurd (f refl))
+      (λ g. pick-cases (λ (n : ℕ). (n ≡ 0 → ⊥) → Long n) _ _ _
+      (λ h f. record { there = leb-false (length xs) (p + 1) g; most = ltb-true 258 (word xs p) h; size = refl })
+      (λ h f. absurd (f refl))))
+
+  record-whole : Long (longLength xs p) → longLength xs p ≤ length xs - (p + 2) → recordAt xs p true ≡ none 22 p
+  unfolding recordAt
+  record-whole l h =
+      pick-false _ _ _ (lt-leb (length xs) p (omega (arith, l .there)))
+      ∙ pick-false _ _ _ (lt-leb (length xs) (p + 1) (l .there))
+      ∙ pick-false _ _ _ (le-ltb (length xs - (p + 2)) (word xs p) (omega (arith, l .size, h)))
+      ∙ pick-false _ _ _ (ne-eqb (word xs p) 0 (λ e. omega (arith, l .most, e)))
+      ∙ kind-long (word xs p) (getD xs (p + 2) 0) (l .most)
+
+  record-cut : Long (longLength xs p) → length xs - (p + 2) < longLength xs p → recordAt xs p true ≡ none 21 p
+  unfolding recordAt short pick
+  record-cut l h =
+      simp (
+        lt-leb (length xs) p (omega (arith, l .there)),
+        lt-leb (length xs) (p + 1) (l .there),
+        lt-ltb (length xs - (p + 2)) (word xs p) (omega (arith, l .size, h)),
+      )
+
+-- ---- what follows a step
+
+onward : ℕ → List ℕ → Outcome → Ended
+onward most xs o =
+    pick (eqb (o .said .step .number) 2) (endedBy (lineIn o) (o .said .step .fault) (systemIn o))
+    (lineBefore (lineIn o)
+    (stepsFrom most (o .said .step .session) xs (o .said .step .next) (o .said .line) (o .buffers)))
+
+-- what follows a record, or what stands in place of one
+after : ℕ → List ℕ → Record → System (List ℕ) → Ended
+after most xs r s =
+    pick (eqb (r .number) 5) (endedBy (countsLine (s .clocks)) 0 s)
+    (pick (leb 20 (r .number)) (endedBy (faultLine (r .number)) (r .number) s)
+    (lineBefore (recordLine (r .number) (effect xs r s .number) (effect xs r s .byte))
+    (recordsFrom most xs (r .next) (effect xs r s .system))))
+
+module _ (xs out : List ℕ) (room : 72 ≤ length out) (b : Buffers (List ℕ)) (d : Device) where
+  -- the last line
+  last-counts : (k p : ℕ) → onward k xs (aside b (ending p d out)) ≡ endedBy (countsLine (d .clocks)) 0 (beside d b)
+  unfolding onward pick
+  last-counts k p = ap (λ (l : List ℕ). endedBy l 0 (beside d b)) (put-taken (countsLine (d .clocks)) out (omega (arith, counts-room (d .clocks))))
+
+  last-fault : (k p n : ℕ) → onward k xs (aside b (faulty n p d out)) ≡ endedBy (faultLine n) n (beside d b)
+  unfolding onward pick
+  last-fault k p n = ap (λ (l : List ℕ). endedBy l n (beside d b)) (put-taken (faultLine n) out (omega (arith, number-room 83 n)))
+
+  -- a step in phase 1 and in phase 2
+  in-records : (k p : ℕ) → stepsFrom (suc k) (inPhase 1 0 d) xs p out b ≡ onward k xs (recordStep (inPhase 1 0 d) xs p true out b)
+  unfolding stepsFrom onward stepOf pick
+  in-records k p = simp (le-ltb (length out) 72 room)
+
+  in-long : (k p n : ℕ) → stepsFrom (suc k) (inPhase 2 n d) xs p out b ≡ onward k xs (aside b (longStep (inPhase 2 n d) xs p true out))
+  unfolding stepsFrom onward stepOf pick
+  in-long k p n = simp (le-ltb (length out) 72 room)
+
+  -- a record step where no record is too long, and where one is
+  step-record : (p : ℕ) → longLength xs p ≡ 0 → recordStep (inPhase 1 0 d) xs p true out b ≡ byRecord (recordAt xs p true) (inPhase 1 0 d) xs out b
+  unfolding recordStep
+  step-record p e = pick-true _ _ _ (eq-eqb (longLength xs p) 0 e)
+
+  step-long : (p : ℕ) → (longLength xs p ≡ 0 → ⊥) → recordStep (inPhase 1 0 d) xs p true out b ≡ aside b (silent 0 (p + 2) (inPhase 2 (longLength xs p) d) out)
+  unfolding recordStep
+  step-long p e = pick-false _ _ _ (ne-eqb (longLength xs p) 0 e)
+
+  -- a record that was carried out
+  onward-carried : (k most : ℕ) (r : Record) (a : Answer (List ℕ)) → ((out′ : List ℕ) → 72 ≤ length out′ → stepsFrom k (inPhase 1 0 (deviceOf (a .system))) xs (r .next) out′ (a .system .world .buffers) ≡ recordsFrom most xs (r .next) (a .system)) → onward k xs (carried r a out) ≡ lineBefore (recordLine (r .number) (a .number) (a .byte)) (recordsFrom most xs (r .next) (a .system))
+  unfolding onward pick
+  onward-carried k most r a h =
+      ap
+      (λ (l : List ℕ). lineBefore l (stepsFrom k (inPhase 1 0 (deviceOf (a .system))) xs (r .next) (placed 0 (recordLine (r .number) (a .number) (a .byte)) out) (a .system .world .buffers)))
+      (put-taken (recordLine (r .number) (a .number) (a .byte)) out (omega (arith, record-room (r .number) (a .number) (a .byte))))
+      ∙ ap (lineBefore (recordLine (r .number) (a .number) (a .byte)))
+      (h
+      (placed 0 (recordLine (r .number) (a .number) (a .byte)) out)
+      (omega (arith, placed-size 0 (recordLine (r .number) (a .number) (a .byte)) out)))
+
+  -- what stands at a place, taken by a step
+  onward-record : (k most p : ℕ) (r : Record) → Stands p r → (p < r .next → onward k xs (carried r (effect xs r (beside d b)) out) ≡ lineBefore (recordLine (r .number) (effect xs r (beside d b) .number) (effect xs r (beside d b) .byte)) (recordsFrom most xs (r .next) (effect xs r (beside d b) .system))) → onward k xs (byRecord r (inPhase 1 0 d) xs out b) ≡ after most xs r (beside d b)
+  unfolding byRecord after
+  onward-record k most p r s h =
+      ap (onward k xs) (pick-false _ _ _ (ne-eqb (r .number) 0 (λ e. omega (arith, s .some, e))))
+      ∙ both (λ (x : Outcome) (y : Ended). onward k xs x ≡ y) (eqb (r .number) 5) _ _ _ _ (λ e. last-counts k (r .next))
+      (λ e. both (λ (x : Outcome) (y : Ended). onward k xs x ≡ y) (leb 20 (r .number)) _ _ _ _
+      (λ f. last-fault k (r .next) (r .number))
+      (λ f. h (s .takes (λ z. clash (sym e ∙ eq-eqb (r .number) 5 z)) (λ z. omega (arith, leb-false 20 (r .number) f, z)))))
+
+  -- a record that is too long, in two steps
+  long-goes : (k p n : ℕ) → onward k xs (aside b (silent 0 (p + 2) (inPhase 2 n d) out)) ≡ stepsFrom k (inPhase 2 n d) xs (p + 2) out b
+  unfolding onward pick
+  long-goes k p n = refl
+
+  long-whole : (p n : ℕ) → n ≤ length xs - p → longStep (inPhase 2 n d) xs p true out ≡ faulty 22 (p + n) d out
+  unfolding longStep
+  long-whole p n h = pick-true _ _ _ (le-leb n (length xs - p) h)
+
+  long-cut : (p n : ℕ) → length xs - p < n → longStep (inPhase 2 n d) xs p true out ≡ faulty 21 (p + (length xs - p)) d out
+  unfolding longStep pick
+  long-cut p n h = simp (lt-leb n (length xs - p) h)
+
+  after-fault : (most p n : ℕ) → 20 ≤ n → after most xs (none n p) (beside d b) ≡ endedBy (faultLine n) n (beside d b)
+  unfolding after
+  after-fault most p n h = pick-false _ _ _ (ne-eqb n 5 (λ e. omega (arith, h, e))) ∙ pick-true _ _ _ (le-leb 20 n h)
+
+  onward-fault : (k most p q n : ℕ) (x : Said) → x ≡ faulty n q d out → recordAt xs p true ≡ none n p → 20 ≤ n → onward k xs (aside b x) ≡ after most xs (recordAt xs p true) (beside d b)
+  onward-fault k most p q n x e r h =
+      ap (λ (y : Said). onward k xs (aside b y)) e
+      ∙ last-fault k q n
+      ∙ sym (ap (λ (y : Record). after most xs y (beside d b)) r ∙ after-fault most p n h)
+
+  onward-long : (k most p : ℕ) → (longLength xs p ≡ 0 → ⊥) → onward (suc k) xs (aside b (silent 0 (p + 2) (inPhase 2 (longLength xs p) d) out)) ≡ after most xs (recordAt xs p true) (beside d b)
+  onward-long k most p e =
+      long-goes (suc k) p (longLength xs p)
+      ∙ in-long k (p + 2) (longLength xs p)
+      ∙ either (leb (longLength xs p) (length xs - (p + 2)))
+      (λ f. let
+      h : longLength xs p ≤ length xs - (p + 2) = leb-true (longLength xs p) (length xs - (p + 2)) f
+      in
+      onward-fault k most p (p + 2 + longLength xs p) 22 _ (long-whole (p + 2) (longLength xs p) h) (record-whole xs p (long xs p e) h)
+      (omega arith))
+      (λ f. let
+      h : length xs - (p + 2) < longLength xs p = leb-false (longLength xs p) (length xs - (p + 2)) f
+      in
+      onward-fault k most p (p + 2 + (length xs - (p + 2))) 21 _ (long-cut (p + 2) (longLength xs p) h) (record-cut xs p (long xs p e) h)
+      (omega arith))
+
+-- ---- the records, and the session
+
+module _ (xs : List ℕ) where
+  behind-all : (k p : ℕ) (out : List ℕ) → 72 ≤ length out → (b : Buffers (List ℕ)) (d : Device) → length xs ≤ p → stepsFrom (suc k) (inPhase 1 0 d) xs p out b ≡ endedBy (countsLine (d .clocks)) 0 (beside d b)
+  unfolding byRecord pick
+  behind-all k p out room b d h =
+      in-records xs out room b d k p
+      ∙ ap (onward k xs) (step-record xs out room b d p (short-end xs p h))
+      ∙ ap (λ (r : Record). onward k xs (byRecord r (inPhase 1 0 d) xs out b)) (at-end xs p h)
+      ∙ last-counts xs out room b d k p
+
+  records : (most p : ℕ) (out : List ℕ) → 72 ≤ length out → (b : Buffers (List ℕ)) (d : Device) → length xs < p + most → stepsFrom (suc (suc most)) (inPhase 1 0 d) xs p out b ≡ recordsFrom most xs p (beside d b)
+  unfolding recordsFrom after
+  records zero p out room b d h = behind-all (suc zero) p out room b d (omega arith)
+  records (suc most) p out room b d h =
+      in-records xs out room b d (suc (suc most)) p
+      ∙ either (eqb (longLength xs p) 0)
+      (λ e. ap (onward (suc (suc most)) xs) (step-record xs out room b d p (eqb-true (longLength xs p) 0 e))
+      ∙ onward-record xs out room b d (suc (suc most)) most p (recordAt xs p true) (stands xs p)
+      (λ g. onward-carried xs out room b d (suc (suc most)) most (recordAt xs p true) (effect xs (recordAt xs p true) (beside d b))
+      (λ out′ room′. records most (recordAt xs p true .next) out′ room′ _ _ (omega (arith, g, h)))))
+      (λ e. ap (onward (suc (suc most)) xs) (step-long xs out room b d p (eqb-false (longLength xs p) 0 e))
+      ∙ onward-long xs out room b d (suc most) most p (eqb-false (longLength xs p) 0 e))
+
+  module _ (out : List ℕ) (room : 72 ≤ length out) where
+    in-version : (k : ℕ) → stepsFrom (suc k) sessionAtStart xs 0 out (start .world .buffers) ≡ onward k xs (aside (start .world .buffers) (versionStep sessionAtStart xs 0 true out))
+    unfolding stepsFrom onward stepOf pick
+    in-version k = simp (le-ltb (length out) 72 room)
+
+    no-version : length xs ≤ 0 → versionStep sessionAtStart xs 0 true out ≡ faulty 20 0 deviceAtPowerOn out
+    unfolding versionStep pick
+    no-version h = simp (le-leb (length xs) 0 h)
+
+    other-version : 0 < length xs → (getD xs 0 0 ≡ 1 → ⊥) → versionStep sessionAtStart xs 0 true out ≡ faulty 20 (0 + 1) deviceAtPowerOn out
+    unfolding versionStep
+    other-version h e = pick-false _ _ _ (lt-leb (length xs) 0 h) ∙ pick-false _ _ _ (ne-eqb (getD xs 0 0) 1 e)
+
+    right-version : 0 < length xs → getD xs 0 0 ≡ 1 → versionStep sessionAtStart xs 0 true out ≡ silent 0 (0 + 1) (inPhase 1 0 deviceAtPowerOn) out
+    unfolding versionStep
+    right-version h e = pick-false _ _ _ (lt-leb (length xs) 0 h) ∙ pick-true _ _ _ (eq-eqb (getD xs 0 0) 1 e)
+
+    version-goes : (k : ℕ) → onward k xs (aside (start .world .buffers) (silent 0 (0 + 1) (inPhase 1 0 deviceAtPowerOn) out)) ≡ stepsFrom k (inPhase 1 0 deviceAtPowerOn) xs 1 out (start .world .buffers)
+    unfolding onward pick
+    version-goes k = refl
+
+    session-fault : (getD xs 0 0 ≡ 1 → ⊥) → session xs ≡ endedBy (faultLine 20) 20 start
+    unfolding session
+    session-fault e = pick-false _ _ _ (ne-eqb (getD xs 0 0) 1 e)
+
+    session-records : getD xs 0 0 ≡ 1 → session xs ≡ recordsFrom (length xs) xs 1 start
+    unfolding session
+    session-records e = pick-true _ _ _ (eq-eqb (getD xs 0 0) 1 e)
+
+    -- a fault of the version
+    faulted : (k q : ℕ) → versionStep sessionAtStart xs 0 true out ≡ faulty 20 q deviceAtPowerOn out → (getD xs 0 0 ≡ 1 → ⊥) → stepsFrom (suc k) sessionAtStart xs 0 out (start .world .buffers) ≡ session xs
+    faulted k q v e =
+        in-version k
+        ∙ ap (λ (x : Said). onward k xs (aside (start .world .buffers) x)) v
+        ∙ last-fault xs out room (start .world .buffers) deviceAtPowerOn k q 20
+        ∙ sym (session-fault e)
+
+pub steps-read : (xs : List ℕ) → StepsRead xs
+steps-read xs out room =
+    either (leb (length xs) 0)
+    (λ e. let
+    h : length xs ≤ 0 = leb-true (length xs) 0 e
+    in
+    faulted xs out room _ 0 (no-version xs out room h) (λ z. omega (arith, List·getD-eq-default xs 0 {n = 0} h, z)))
+    (λ e. let
+    h : 0 < length xs = leb-false (length xs) 0 e
+    in
+    either (eqb (getD xs 0 0) 1)
+    (λ f. let
+    v : getD xs 0 0 ≡ 1 = eqb-true (getD xs 0 0) 1 f
+    in
+    in-version xs out room (suc (suc (length xs)))
+    ∙ ap (λ (x : Said). onward (suc (suc (length xs))) xs (aside (start .world .buffers) x)) (right-version xs out room h v)
+    ∙ version-goes xs out room (suc (suc (length xs)))
+    ∙ records xs (length xs) 1 out room (start .world .buffers) deviceAtPowerOn (omega arith)
+    ∙ sym (session-records xs out room v))
+    (λ f. faulted xs out room _ (0 + 1) (other-version xs out room h (eqb-false (getD xs 0 0) 1 f)) (eqb-false (getD xs 0 0) 1 f)))
