@@ -5,3 +5,4 @@ pub mod Saying
 pub mod Room
 pub mod Runs
 pub mod Stepping
+pub mod Examples

@@ -3,3 +3,4 @@ pub mod Lines
 pub mod Effects
 pub mod Steps
 pub mod Sessions
+pub mod Examples

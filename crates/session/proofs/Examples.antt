@@ -1,0 +1,13 @@
+-- The worked sessions hold of the definitions, by computation.
+-- Assumes nothing.
+use mathlib.Core.Path.{refl}
+use Rattle.rules.specs.Opened.{opened}
+use Rattle.session.specs.Records.{word, quad, short, behind, writeRecord, readRecord, grantRecord, memoryRecord, ofKind, recordAt}
+use Rattle.session.specs.Lines.{decimalTo, hexDigit, readLine, recordLine}
+use Rattle.session.specs.Effects.{pokes, entryOf}
+use Rattle.session.specs.Sessions.{recordsFrom, session}
+use Rattle.session.specs.Examples.{asciiFrom, writes, seen, must, ExamplesHold}
+
+pub examples-hold : ExamplesHold
+unfolding opened word quad short behind writeRecord readRecord grantRecord memoryRecord ofKind recordAt decimalTo hexDigit readLine recordLine pokes entryOf recordsFrom session asciiFrom writes seen must
+examples-hold = refl

@@ -1,0 +1,117 @@
+-- Sessions worked out by hand, under one statement: document 01's sample, P1 of its bench sheet, each fault and cut, and a
+-- memory record that wraps.
+-- Assumes nothing.
+use Prim.Native.Nat.{ℕ, zero, suc, _+_}
+use Prim.Native.Char.{code}
+use Prim.Native.String.{String, len, charAt}
+use mathlib.Core.Path.{_≡_}
+use mathlib.Core.List.{List, [], _∷_, _++_}
+use lib.ListN.{getD}
+use Rattle.session.specs.Sessions.{session}
+
+-- a text of ASCII as bytes
+unfoldable pub asciiFrom : ℕ → ℕ → String → List ℕ
+asciiFrom zero at text = []
+asciiFrom (suc count) at text = code (charAt text at) ∷ asciiFrom count (at + 1) text
+
+abbrev pub ascii : String → List ℕ
+ascii text = asciiFrom (len text) 0 text
+
+-- what is seen of a session: the lines, the fault, the first and the last byte of memory
+pub record Seen : Type 0 where
+  pub lines : List ℕ
+  pub fault : ℕ
+  pub first : ℕ
+  pub last : ℕ
+
+pub record Example : Type 0 where
+  pub bytes : List ℕ
+  pub lines : String
+  pub fault : ℕ
+  pub first : ℕ
+  pub last : ℕ
+
+abbrev pub example : List ℕ → String → ℕ → Example
+example bytes lines fault = record { bytes = bytes; lines = lines; fault = fault; first = 0; last = 0 }
+
+-- records: a port write on 006B, a port read of a port whose low byte is 6B, a grant of fewer than 256 clocks
+abbrev pub write : ℕ → List ℕ
+write byte = 0 ∷ 4 ∷ 1 ∷ 0 ∷ 0x6B ∷ byte ∷ []
+
+abbrev pub read : ℕ → List ℕ
+read high = 0 ∷ 3 ∷ 2 ∷ high ∷ 0x6B ∷ []
+
+abbrev pub grant : ℕ → List ℕ
+grant clocks = 0 ∷ 5 ∷ 3 ∷ 0 ∷ 0 ∷ 0 ∷ clocks ∷ []
+
+unfoldable pub writes : List ℕ → List ℕ
+writes [] = []
+writes (byte ∷ bytes) = write byte ++ writes bytes
+
+abbrev pub examples : List Example
+examples =
+    example (1 ∷ grant 10 ++ read 0) "G 0\nR 0 3A\nB 0 0 10\n" 0
+    -- P1: four bytes, and the seven registers
+    ∷ example
+    (1
+    ∷ writes (0x83 ∷ 0x7D ∷ 0x00 ∷ 0x10 ∷ 0x04 ∷ 0x00 ∷ 0x54 ∷ 0x02 ∷ 0x50 ∷ 0x02 ∷ 0xAD ∷ 0x00 ∷ 0x20 ∷ 0x82 ∷ 0xCF ∷ 0x87 ∷ [])
+    ++ write 0x83
+    ++ grant 16
+    ++ read 0
+    ++ read 1
+    ++ read 2
+    ++ read 0
+    ++ read 0
+    ++ read 0
+    ++ read 0xFF)
+    "W 0\nW 0\nW 0\nW 0\nW 0\nW 0\nW 0\nW 0\nW 0\nW 0\nW 0\nW 0\nW 0\nW 0\nW 0\nW 0\nW 3\nG 0\nR 0 1B\nR 0 04\nR 0 00\nR 0 04\nR 0 10\nR 0 04\nR 0 20\nB 16 0 0\n"
+    0
+    -- a wrong port, and a count of more than one digit
+    ∷ example (1 ∷ 0 ∷ 3 ∷ 2 ∷ 0 ∷ 0x6C ∷ grant 200) "R 2\nG 0\nB 0 0 200\n" 0
+    -- no record; no version; another version, whatever comes behind it
+    ∷ example (1 ∷ []) "B 0 0 0\n" 0
+    ∷ example [] "S 20\n" 20
+    ∷ example (2 ∷ grant 10) "S 20\n" 20
+    -- cut short in the length, behind it, and before the last byte, behind a record that is not
+    ∷ example (1 ∷ 0 ∷ []) "S 21\n" 21
+    ∷ example (1 ∷ 0 ∷ 4 ∷ []) "S 21\n" 21
+    ∷ example (1 ∷ grant 1 ++ (0 ∷ 4 ∷ 1 ∷ 0 ∷ 0x6B ∷ [])) "G 0\nS 21\n" 21
+    -- cut short, and of a length or a kind that is wrong: 21 comes first
+    ∷ example (1 ∷ 0 ∷ 9 ∷ 1 ∷ 0 ∷ 0x6B ∷ 0 ∷ []) "S 21\n" 21
+    ∷ example (1 ∷ 0xFF ∷ 0xFF ∷ 9 ∷ []) "S 21\n" 21
+    -- no kind; kinds that are none; lengths that are wrong
+    ∷ example (1 ∷ 0 ∷ 0 ∷ []) "S 22\n" 22
+    ∷ example (1 ∷ 0 ∷ 1 ∷ 0 ∷ []) "S 22\n" 22
+    ∷ example (1 ∷ 0 ∷ 4 ∷ 5 ∷ 0 ∷ 0x6B ∷ 0 ∷ []) "S 22\n" 22
+    ∷ example (1 ∷ 0 ∷ 3 ∷ 1 ∷ 0 ∷ 0x6B ∷ []) "S 22\n" 22
+    ∷ example (1 ∷ 0 ∷ 4 ∷ 2 ∷ 0 ∷ 0x6B ∷ 0 ∷ []) "S 22\n" 22
+    ∷ example (1 ∷ 0 ∷ 4 ∷ 3 ∷ 0 ∷ 0 ∷ 1 ∷ []) "S 22\n" 22
+    ∷ example (1 ∷ 0 ∷ 3 ∷ 4 ∷ 0 ∷ 0 ∷ []) "S 22\n" 22
+    -- a memory record that wraps at 65,536, before a fault that ends the session
+    ∷ record {
+      bytes = 1 ∷ 0 ∷ 5 ∷ 4 ∷ 0xFF ∷ 0xFF ∷ 7 ∷ 8 ∷ 0 ∷ 0 ∷ [] ++ grant 10;
+      lines = "M 0\nS 22\n";
+      fault = 22;
+      first = 8;
+      last = 7;
+    }
+    ∷ []
+
+-- what is seen of each, and what must be
+unfoldable pub seen : List Example → List Seen
+seen [] = []
+seen (e ∷ es) =
+    record {
+      lines = session (e .bytes) .lines;
+      fault = session (e .bytes) .fault;
+      first = getD (session (e .bytes) .system .world .buffers .memory) 0 0;
+      last = getD (session (e .bytes) .system .world .buffers .memory) 65535 0;
+    }
+    ∷ seen es
+
+unfoldable pub must : List Example → List Seen
+must [] = []
+must (e ∷ es) = record { lines = ascii (e .lines); fault = e .fault; first = e .first; last = e .last } ∷ must es
+
+abbrev pub ExamplesHold : Type 0
+ExamplesHold = seen examples ≡ must examples
