@@ -2,9 +2,8 @@
 -- Assumes nothing.
 use Prim.Native.Nat.{ℕ, _-_}
 use mathlib.Core.Path.{_≡_, refl, sym, ap, _∙_}
-use mathlib.Core.List.{List}
+use mathlib.Core.List.{List, []}
 use borrow.Author.Tests.{eq-eqb, ne-eqb}
-use lib.Dec.{eqb}
 use Rattle.rules.specs.Buffers.{flat}
 use Rattle.rules.specs.Calls.{Answer, Reply, writeReply, readReply, grant}
 use Rattle.rules.specs.Entries.{Poke, poked, flatOutside, ownMemory, ownLatches, Entry, portWrite, portRead, clockGrant, outsideChange, enter}
@@ -38,9 +37,19 @@ module _ (xs : List ℕ) (r : Record) where
   unfolding entryOf pick
   entry-grant n o e = simp (ne-eqb _ _ n, ne-eqb _ _ o, eq-eqb _ _ e)
 
-  entry-memory : (r .number ≡ 1 → ⊥) → (r .number ≡ 2 → ⊥) → (r .number ≡ 3 → ⊥) → outsideChange (pokes (r .next - r .start) xs (r .start) (r .word)) ≡ entryOf xs r
+  -- what is none of the first three kinds
+  pub record Other : Type 0 where
+    pub write : r .number ≡ 1 → ⊥
+    pub read : r .number ≡ 2 → ⊥
+    pub grant : r .number ≡ 3 → ⊥
+
+  entry-memory : Other → r .number ≡ 4 → outsideChange (pokes (r .next - r .start) xs (r .start) (r .word)) ≡ entryOf xs r
   unfolding entryOf pick
-  entry-memory n o p = simp (ne-eqb _ _ n, ne-eqb _ _ o, ne-eqb _ _ p)
+  entry-memory o e = simp (ne-eqb _ _ (o .write), ne-eqb _ _ (o .read), ne-eqb _ _ (o .grant), eq-eqb _ _ e)
+
+  entry-none : Other → (r .number ≡ 4 → ⊥) → outsideChange [] ≡ entryOf xs r
+  unfolding entryOf pick
+  entry-none o n = simp (ne-eqb _ _ (o .write), ne-eqb _ _ (o .read), ne-eqb _ _ (o .grant), ne-eqb _ _ n)
 
   module _ (d : Device) (m l : List ℕ) where
     -- an entry's effect on the device and the two buffers
@@ -66,6 +75,10 @@ module _ (xs : List ℕ) (r : Record) where
     unfolding on
     carried-grant a m′ l′ n o e h = h ∙ ap on (entry-grant n o e)
 
-    pub carried-memory : (m′ : List ℕ) → (r .number ≡ 1 → ⊥) → (r .number ≡ 2 → ⊥) → (r .number ≡ 3 → ⊥) → m′ ≡ poked (pokes (r .next - r .start) xs (r .start) (r .word)) m → _≡_ {A = Answer (List ℕ)} (record { number = 0; byte = 0; system = systemOf d m′ l }) (effect xs r (systemOf d m l))
+    pub carried-memory : (m′ : List ℕ) → Other → r .number ≡ 4 → m′ ≡ poked (pokes (r .next - r .start) xs (r .start) (r .word)) m → _≡_ {A = Answer (List ℕ)} (record { number = 0; byte = 0; system = systemOf d m′ l }) (effect xs r (systemOf d m l))
     unfolding on
-    carried-memory m′ n o p h = (λ i. record { number = 0; byte = 0; system = systemOf d (h i) l }) ∙ ap on (entry-memory n o p)
+    carried-memory m′ o e h = (λ i. record { number = 0; byte = 0; system = systemOf d (h i) l }) ∙ ap on (entry-memory o e)
+
+    pub carried-none : Other → (r .number ≡ 4 → ⊥) → _≡_ {A = Answer (List ℕ)} (record { number = 0; byte = 0; system = systemOf d m l }) (effect xs r (systemOf d m l))
+    unfolding on poked
+    carried-none o n = ap on (entry-none o n)

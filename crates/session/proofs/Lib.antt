@@ -5,4 +5,5 @@ pub mod Saying
 pub mod Room
 pub mod Runs
 pub mod Stepping
+pub mod Pieces
 pub mod Examples

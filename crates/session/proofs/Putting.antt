@@ -7,7 +7,6 @@ use mathlib.Core.List.{List, [], _∷_, _++_}
 use borrow.Author.Tests.{lt-ltb, le-ltb}
 use lib.Dec.{ltb}
 use lib.ListN.{length, set, length-set, length-append}
-use Rattle.rules.specs.Choice.{pick}
 use Rattle.rules.specs.Buffers.{placed}
 use Rattle.rules.proofs.Choice.{pick-true, pick-false, pick-both}
 use Rattle.session.specs.Lines.{decimalTo, Put}

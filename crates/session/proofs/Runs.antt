@@ -11,12 +11,10 @@ use lib.ListN.{length, getD}
 use Rattle.rules.specs.Choice.{pick}
 use Rattle.rules.specs.Buffers.{flat}
 use Rattle.rules.specs.World.{System}
-use Rattle.rules.specs.Calls.{Answer}
-use Rattle.rules.specs.Entries.{flatOutside, Answered, Run, run}
-use Rattle.rules.proofs.Choice.{pick-true, either}
+use Rattle.rules.specs.Entries.{flatOutside, run}
 use Rattle.session.specs.Records.{recordAt}
 use Rattle.session.specs.Lines.{recordLine, countsLine, faultLine}
-use Rattle.session.specs.Effects.{entryOf, effect}
+use Rattle.session.specs.Effects.{effect}
 use Rattle.session.specs.Sessions.{Ended, endedBy, lineBefore, recordsFrom, session, decodedFrom, decoded, entriesOf, linesOf, lastLine, start, SessionRuns}
 use Rattle.session.specs.declared.parse.Record.{Record}
 

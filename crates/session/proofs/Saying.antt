@@ -5,20 +5,20 @@ use native.Mathlib.Omega.{arith}
 use mathlib.Core.Path.{_≡_, refl, ap, _∙_}
 use mathlib.Core.List.{List}
 use borrow.Author.Tests.{leb-false}
-use lib.Dec.{leb, ltb}
+use lib.Dec.{leb}
 use lib.ListN.{length}
 use Rattle.rules.specs.Calls.{Answer}
 use Rattle.rules.proofs.Choice.{pick-cases}
-use Rattle.session.specs.Records.{longLength, word}
+use Rattle.session.specs.Records.{longLength}
 use Rattle.session.specs.Lines.{Put, recordLine}
 use Rattle.session.specs.Effects.{effectAnswer}
-use Rattle.session.specs.Steps.{Said, Outcome, inPhase, spoken, said, outcome, carried}
+use Rattle.session.specs.Steps.{Said, inPhase, withLine, said, outcome, carried}
 use Rattle.session.specs.declared.parse.Record.{Record}
 use Rattle.session.specs.declared.effect.Effect.{Effect}
 use Rattle.session.specs.declared.step.Session.{Session}
 
 module _ {out out′ bytes : List ℕ} {n : ℕ} {s s′ : Session} where
-  pub spoken-put : (number fault next : ℕ) → Put out 0 bytes out′ n → s ≡ s′ → said (record { number = number; fault = fault; next = next; length = n; session = s }) out′ ≡ spoken number fault next bytes s′ out
+  pub spoken-put : (number fault next : ℕ) → Put out 0 bytes out′ n → s ≡ s′ → said (record { number = number; fault = fault; next = next; length = n; session = s }) out′ ≡ withLine number fault next bytes s′ out
   spoken-put number fault next p e =
       let z : n ≡ length bytes = omega (arith, p .place) in
       λ i. record { step = record { number = number; fault = fault; next = next; length = z i; session = e i }; line = p .list i }

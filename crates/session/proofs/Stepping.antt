@@ -5,10 +5,10 @@ use Prim.Native.Nat.{ℕ, zero, suc, _+_, _-_, _≤_, _<_}
 use native.Mathlib.Omega.{arith}
 use native.Mathlib.Numerals.{add-one}
 use mathlib.Core.Path.{_≡_, refl, sym, ap, _∙_}
-use mathlib.Core.Bool.{Bool, true, false}
+use mathlib.Core.Bool.{true}
 use mathlib.Core.List.{List, [], _∷_, _++_, append-assoc, append-nil}
-use borrow.Author.Tests.{le-leb, lt-leb, leb-true, leb-false, lt-ltb, le-ltb, ltb-true, ltb-false, eq-eqb, ne-eqb, eqb-true, eqb-false}
-use lib.Dec.{eqb, leb, ltb}
+use borrow.Author.Tests.{le-leb, lt-leb, leb-true, leb-false, lt-ltb, le-ltb, ltb-true, eq-eqb, ne-eqb, eqb-true, eqb-false}
+use lib.Dec.{eqb, leb}
 use lib.ListN.{length, getD, take, set, length-set, List·getD-eq-default}
 use lib.Seq.{take-suc-set}
 use Rattle.rules.specs.Choice.{pick}
@@ -21,10 +21,9 @@ use Rattle.zxndma.specs.declared.Device.{Device}
 use Rattle.session.specs.Records.{none, short, behind, word, writeRecord, readRecord, grantRecord, memoryRecord, ofKind, recordAt, longLength}
 use Rattle.session.specs.Lines.{recordLine, countsLine, faultLine}
 use Rattle.session.specs.Effects.{effect}
-use Rattle.session.specs.Steps.{Said, Outcome, inPhase, sessionAtStart, deviceOf, beside, carried, ending, faulty, silent, aside, versionStep, longStep, byRecord, recordStep, stepOf}
-use Rattle.session.specs.Sessions.{Ended, endedBy, lineBefore, recordsFrom, session, start, lineIn, systemIn, stepsFrom, StepsRead}
+use Rattle.session.specs.Steps.{Said, Outcome, inPhase, sessionAtStart, deviceOf, systemWith, carried, lastCounts, lastFault, withoutLine, buffersKept, versionStep, longStep, byRecord, recordStep, stepOf}
+use Rattle.session.specs.Sessions.{Ended, endedBy, lineBefore, recordsFrom, session, start, lineIn, systemIn, stepsFrom, StepsRead, AllRead}
 use Rattle.session.specs.declared.parse.Record.{Record}
-use Rattle.session.specs.declared.step.Session.{Session}
 use Rattle.session.proofs.Runs.{both}
 use Rattle.session.proofs.Room.{number-room, record-room, counts-room}
 
@@ -55,15 +54,15 @@ placed-size at (x ∷ bytes) l = placed-size (at + 1) bytes (set l at x) ∙ len
 -- ---- what can stand at a place where the input has ended
 
 -- a record there takes bytes
-record Stands (p : ℕ) (r : Record) : Type 0 where
-  some : 0 < r .number
-  takes : (r .number ≡ 5 → ⊥) → (20 ≤ r .number → ⊥) → p < r .next
+pub record Stands (p : ℕ) (r : Record) : Type 0 where
+  pub some : 0 < r .number
+  pub takes : (r .number ≡ 5 → ⊥) → (20 ≤ r .number → ⊥) → p < r .next
 
 no-record : (p number : ℕ) → 20 ≤ number → Stands p (none number p)
 no-record p number h = record { some = omega arith; takes = λ e f. absurd (f h) }
 
 module _ (xs : List ℕ) (p : ℕ) where
-  stands-kind : (n k : ℕ) → Stands p (ofKind xs p n k)
+  pub stands-kind : (n k : ℕ) → Stands p (ofKind xs p n k)
   unfolding ofKind writeRecord readRecord grantRecord memoryRecord
   stands-kind n k =
       pick-both (Stands p) _ _ _
@@ -165,20 +164,20 @@ after most xs r s =
 
 module _ (xs out : List ℕ) (room : 72 ≤ length out) (b : Buffers (List ℕ)) (d : Device) where
   -- the last line
-  last-counts : (k p : ℕ) → onward k xs (aside b (ending p d out)) ≡ endedBy (countsLine (d .clocks)) 0 (beside d b)
+  last-counts : (k p : ℕ) → onward k xs (buffersKept b (lastCounts p d out)) ≡ endedBy (countsLine (d .clocks)) 0 (systemWith d b)
   unfolding onward pick
-  last-counts k p = ap (λ (l : List ℕ). endedBy l 0 (beside d b)) (put-taken (countsLine (d .clocks)) out (omega (arith, counts-room (d .clocks))))
+  last-counts k p = ap (λ (l : List ℕ). endedBy l 0 (systemWith d b)) (put-taken (countsLine (d .clocks)) out (omega (arith, counts-room (d .clocks))))
 
-  last-fault : (k p n : ℕ) → onward k xs (aside b (faulty n p d out)) ≡ endedBy (faultLine n) n (beside d b)
+  last-fault : (k p n : ℕ) → onward k xs (buffersKept b (lastFault n p d out)) ≡ endedBy (faultLine n) n (systemWith d b)
   unfolding onward pick
-  last-fault k p n = ap (λ (l : List ℕ). endedBy l n (beside d b)) (put-taken (faultLine n) out (omega (arith, number-room 83 n)))
+  last-fault k p n = ap (λ (l : List ℕ). endedBy l n (systemWith d b)) (put-taken (faultLine n) out (omega (arith, number-room 83 n)))
 
   -- a step in phase 1 and in phase 2
   in-records : (k p : ℕ) → stepsFrom (suc k) (inPhase 1 0 d) xs p out b ≡ onward k xs (recordStep (inPhase 1 0 d) xs p true out b)
   unfolding stepsFrom onward stepOf pick
   in-records k p = simp (le-ltb (length out) 72 room)
 
-  in-long : (k p n : ℕ) → stepsFrom (suc k) (inPhase 2 n d) xs p out b ≡ onward k xs (aside b (longStep (inPhase 2 n d) xs p true out))
+  in-long : (k p n : ℕ) → stepsFrom (suc k) (inPhase 2 n d) xs p out b ≡ onward k xs (buffersKept b (longStep (inPhase 2 n d) xs p true out))
   unfolding stepsFrom onward stepOf pick
   in-long k p n = simp (le-ltb (length out) 72 room)
 
@@ -187,7 +186,7 @@ module _ (xs out : List ℕ) (room : 72 ≤ length out) (b : Buffers (List ℕ))
   unfolding recordStep
   step-record p e = pick-true _ _ _ (eq-eqb (longLength xs p) 0 e)
 
-  step-long : (p : ℕ) → (longLength xs p ≡ 0 → ⊥) → recordStep (inPhase 1 0 d) xs p true out b ≡ aside b (silent 0 (p + 2) (inPhase 2 (longLength xs p) d) out)
+  step-long : (p : ℕ) → (longLength xs p ≡ 0 → ⊥) → recordStep (inPhase 1 0 d) xs p true out b ≡ buffersKept b (withoutLine 0 (p + 2) (inPhase 2 (longLength xs p) d) out)
   unfolding recordStep
   step-long p e = pick-false _ _ _ (ne-eqb (longLength xs p) 0 e)
 
@@ -204,7 +203,7 @@ module _ (xs out : List ℕ) (room : 72 ≤ length out) (b : Buffers (List ℕ))
       (omega (arith, placed-size 0 (recordLine (r .number) (a .number) (a .byte)) out)))
 
   -- what stands at a place, taken by a step
-  onward-record : (k most p : ℕ) (r : Record) → Stands p r → (p < r .next → onward k xs (carried r (effect xs r (beside d b)) out) ≡ lineBefore (recordLine (r .number) (effect xs r (beside d b) .number) (effect xs r (beside d b) .byte)) (recordsFrom most xs (r .next) (effect xs r (beside d b) .system))) → onward k xs (byRecord r (inPhase 1 0 d) xs out b) ≡ after most xs r (beside d b)
+  onward-record : (k most p : ℕ) (r : Record) → Stands p r → (p < r .next → onward k xs (carried r (effect xs r (systemWith d b)) out) ≡ lineBefore (recordLine (r .number) (effect xs r (systemWith d b) .number) (effect xs r (systemWith d b) .byte)) (recordsFrom most xs (r .next) (effect xs r (systemWith d b) .system))) → onward k xs (byRecord r (inPhase 1 0 d) xs out b) ≡ after most xs r (systemWith d b)
   unfolding byRecord after
   onward-record k most p r s h =
       ap (onward k xs) (pick-false _ _ _ (ne-eqb (r .number) 0 (λ e. omega (arith, s .some, e))))
@@ -214,29 +213,29 @@ module _ (xs out : List ℕ) (room : 72 ≤ length out) (b : Buffers (List ℕ))
       (λ f. h (s .takes (λ z. clash (sym e ∙ eq-eqb (r .number) 5 z)) (λ z. omega (arith, leb-false 20 (r .number) f, z)))))
 
   -- a record that is too long, in two steps
-  long-goes : (k p n : ℕ) → onward k xs (aside b (silent 0 (p + 2) (inPhase 2 n d) out)) ≡ stepsFrom k (inPhase 2 n d) xs (p + 2) out b
+  long-goes : (k p n : ℕ) → onward k xs (buffersKept b (withoutLine 0 (p + 2) (inPhase 2 n d) out)) ≡ stepsFrom k (inPhase 2 n d) xs (p + 2) out b
   unfolding onward pick
   long-goes k p n = refl
 
-  long-whole : (p n : ℕ) → n ≤ length xs - p → longStep (inPhase 2 n d) xs p true out ≡ faulty 22 (p + n) d out
+  long-whole : (p n : ℕ) → n ≤ length xs - p → longStep (inPhase 2 n d) xs p true out ≡ lastFault 22 (p + n) d out
   unfolding longStep
   long-whole p n h = pick-true _ _ _ (le-leb n (length xs - p) h)
 
-  long-cut : (p n : ℕ) → length xs - p < n → longStep (inPhase 2 n d) xs p true out ≡ faulty 21 (p + (length xs - p)) d out
+  long-cut : (p n : ℕ) → length xs - p < n → longStep (inPhase 2 n d) xs p true out ≡ lastFault 21 (p + (length xs - p)) d out
   unfolding longStep pick
   long-cut p n h = simp (lt-leb n (length xs - p) h)
 
-  after-fault : (most p n : ℕ) → 20 ≤ n → after most xs (none n p) (beside d b) ≡ endedBy (faultLine n) n (beside d b)
+  after-fault : (most p n : ℕ) → 20 ≤ n → after most xs (none n p) (systemWith d b) ≡ endedBy (faultLine n) n (systemWith d b)
   unfolding after
   after-fault most p n h = pick-false _ _ _ (ne-eqb n 5 (λ e. omega (arith, h, e))) ∙ pick-true _ _ _ (le-leb 20 n h)
 
-  onward-fault : (k most p q n : ℕ) (x : Said) → x ≡ faulty n q d out → recordAt xs p true ≡ none n p → 20 ≤ n → onward k xs (aside b x) ≡ after most xs (recordAt xs p true) (beside d b)
+  onward-fault : (k most p q n : ℕ) (x : Said) → x ≡ lastFault n q d out → recordAt xs p true ≡ none n p → 20 ≤ n → onward k xs (buffersKept b x) ≡ after most xs (recordAt xs p true) (systemWith d b)
   onward-fault k most p q n x e r h =
-      ap (λ (y : Said). onward k xs (aside b y)) e
+      ap (λ (y : Said). onward k xs (buffersKept b y)) e
       ∙ last-fault k q n
-      ∙ sym (ap (λ (y : Record). after most xs y (beside d b)) r ∙ after-fault most p n h)
+      ∙ sym (ap (λ (y : Record). after most xs y (systemWith d b)) r ∙ after-fault most p n h)
 
-  onward-long : (k most p : ℕ) → (longLength xs p ≡ 0 → ⊥) → onward (suc k) xs (aside b (silent 0 (p + 2) (inPhase 2 (longLength xs p) d) out)) ≡ after most xs (recordAt xs p true) (beside d b)
+  onward-long : (k most p : ℕ) → (longLength xs p ≡ 0 → ⊥) → onward (suc k) xs (buffersKept b (withoutLine 0 (p + 2) (inPhase 2 (longLength xs p) d) out)) ≡ after most xs (recordAt xs p true) (systemWith d b)
   onward-long k most p e =
       long-goes (suc k) p (longLength xs p)
       ∙ in-long k (p + 2) (longLength xs p)
@@ -255,7 +254,7 @@ module _ (xs out : List ℕ) (room : 72 ≤ length out) (b : Buffers (List ℕ))
 -- ---- the records, and the session
 
 module _ (xs : List ℕ) where
-  behind-all : (k p : ℕ) (out : List ℕ) → 72 ≤ length out → (b : Buffers (List ℕ)) (d : Device) → length xs ≤ p → stepsFrom (suc k) (inPhase 1 0 d) xs p out b ≡ endedBy (countsLine (d .clocks)) 0 (beside d b)
+  behind-all : (k p : ℕ) (out : List ℕ) → 72 ≤ length out → (b : Buffers (List ℕ)) (d : Device) → length xs ≤ p → stepsFrom (suc k) (inPhase 1 0 d) xs p out b ≡ endedBy (countsLine (d .clocks)) 0 (systemWith d b)
   unfolding byRecord pick
   behind-all k p out room b d h =
       in-records xs out room b d k p
@@ -263,7 +262,7 @@ module _ (xs : List ℕ) where
       ∙ ap (λ (r : Record). onward k xs (byRecord r (inPhase 1 0 d) xs out b)) (at-end xs p h)
       ∙ last-counts xs out room b d k p
 
-  records : (most p : ℕ) (out : List ℕ) → 72 ≤ length out → (b : Buffers (List ℕ)) (d : Device) → length xs < p + most → stepsFrom (suc (suc most)) (inPhase 1 0 d) xs p out b ≡ recordsFrom most xs p (beside d b)
+  records : (most p : ℕ) (out : List ℕ) → 72 ≤ length out → (b : Buffers (List ℕ)) (d : Device) → length xs < p + most → stepsFrom (suc (suc most)) (inPhase 1 0 d) xs p out b ≡ recordsFrom most xs p (systemWith d b)
   unfolding recordsFrom after
   records zero p out room b d h = behind-all (suc zero) p out room b d (omega arith)
   records (suc most) p out room b d h =
@@ -271,29 +270,29 @@ module _ (xs : List ℕ) where
       ∙ either (eqb (longLength xs p) 0)
       (λ e. ap (onward (suc (suc most)) xs) (step-record xs out room b d p (eqb-true (longLength xs p) 0 e))
       ∙ onward-record xs out room b d (suc (suc most)) most p (recordAt xs p true) (stands xs p)
-      (λ g. onward-carried xs out room b d (suc (suc most)) most (recordAt xs p true) (effect xs (recordAt xs p true) (beside d b))
+      (λ g. onward-carried xs out room b d (suc (suc most)) most (recordAt xs p true) (effect xs (recordAt xs p true) (systemWith d b))
       (λ out′ room′. records most (recordAt xs p true .next) out′ room′ _ _ (omega (arith, g, h)))))
       (λ e. ap (onward (suc (suc most)) xs) (step-long xs out room b d p (eqb-false (longLength xs p) 0 e))
       ∙ onward-long xs out room b d (suc most) most p (eqb-false (longLength xs p) 0 e))
 
   module _ (out : List ℕ) (room : 72 ≤ length out) where
-    in-version : (k : ℕ) → stepsFrom (suc k) sessionAtStart xs 0 out (start .world .buffers) ≡ onward k xs (aside (start .world .buffers) (versionStep sessionAtStart xs 0 true out))
+    in-version : (k : ℕ) → stepsFrom (suc k) sessionAtStart xs 0 out (start .world .buffers) ≡ onward k xs (buffersKept (start .world .buffers) (versionStep sessionAtStart xs 0 true out))
     unfolding stepsFrom onward stepOf pick
     in-version k = simp (le-ltb (length out) 72 room)
 
-    no-version : length xs ≤ 0 → versionStep sessionAtStart xs 0 true out ≡ faulty 20 0 deviceAtPowerOn out
+    no-version : length xs ≤ 0 → versionStep sessionAtStart xs 0 true out ≡ lastFault 20 0 deviceAtPowerOn out
     unfolding versionStep pick
     no-version h = simp (le-leb (length xs) 0 h)
 
-    other-version : 0 < length xs → (getD xs 0 0 ≡ 1 → ⊥) → versionStep sessionAtStart xs 0 true out ≡ faulty 20 (0 + 1) deviceAtPowerOn out
+    other-version : 0 < length xs → (getD xs 0 0 ≡ 1 → ⊥) → versionStep sessionAtStart xs 0 true out ≡ lastFault 20 (0 + 1) deviceAtPowerOn out
     unfolding versionStep
     other-version h e = pick-false _ _ _ (lt-leb (length xs) 0 h) ∙ pick-false _ _ _ (ne-eqb (getD xs 0 0) 1 e)
 
-    right-version : 0 < length xs → getD xs 0 0 ≡ 1 → versionStep sessionAtStart xs 0 true out ≡ silent 0 (0 + 1) (inPhase 1 0 deviceAtPowerOn) out
+    right-version : 0 < length xs → getD xs 0 0 ≡ 1 → versionStep sessionAtStart xs 0 true out ≡ withoutLine 0 (0 + 1) (inPhase 1 0 deviceAtPowerOn) out
     unfolding versionStep
     right-version h e = pick-false _ _ _ (lt-leb (length xs) 0 h) ∙ pick-true _ _ _ (eq-eqb (getD xs 0 0) 1 e)
 
-    version-goes : (k : ℕ) → onward k xs (aside (start .world .buffers) (silent 0 (0 + 1) (inPhase 1 0 deviceAtPowerOn) out)) ≡ stepsFrom k (inPhase 1 0 deviceAtPowerOn) xs 1 out (start .world .buffers)
+    version-goes : (k : ℕ) → onward k xs (buffersKept (start .world .buffers) (withoutLine 0 (0 + 1) (inPhase 1 0 deviceAtPowerOn) out)) ≡ stepsFrom k (inPhase 1 0 deviceAtPowerOn) xs 1 out (start .world .buffers)
     unfolding onward pick
     version-goes k = refl
 
@@ -306,10 +305,10 @@ module _ (xs : List ℕ) where
     session-records e = pick-true _ _ _ (eq-eqb (getD xs 0 0) 1 e)
 
     -- a fault of the version
-    faulted : (k q : ℕ) → versionStep sessionAtStart xs 0 true out ≡ faulty 20 q deviceAtPowerOn out → (getD xs 0 0 ≡ 1 → ⊥) → stepsFrom (suc k) sessionAtStart xs 0 out (start .world .buffers) ≡ session xs
+    faulted : (k q : ℕ) → versionStep sessionAtStart xs 0 true out ≡ lastFault 20 q deviceAtPowerOn out → (getD xs 0 0 ≡ 1 → ⊥) → stepsFrom (suc k) sessionAtStart xs 0 out (start .world .buffers) ≡ session xs
     faulted k q v e =
         in-version k
-        ∙ ap (λ (x : Said). onward k xs (aside (start .world .buffers) x)) v
+        ∙ ap (λ (x : Said). onward k xs (buffersKept (start .world .buffers) x)) v
         ∙ last-fault xs out room (start .world .buffers) deviceAtPowerOn k q 20
         ∙ sym (session-fault e)
 
@@ -328,8 +327,30 @@ steps-read xs out room =
     v : getD xs 0 0 ≡ 1 = eqb-true (getD xs 0 0) 1 f
     in
     in-version xs out room (suc (suc (length xs)))
-    ∙ ap (λ (x : Said). onward (suc (suc (length xs))) xs (aside (start .world .buffers) x)) (right-version xs out room h v)
+    ∙ ap (λ (x : Said). onward (suc (suc (length xs))) xs (buffersKept (start .world .buffers) x)) (right-version xs out room h v)
     ∙ version-goes xs out room (suc (suc (length xs)))
     ∙ records xs (length xs) 1 out room (start .world .buffers) deviceAtPowerOn (omega arith)
     ∙ sym (session-records xs out room v))
     (λ f. faulted xs out room _ (0 + 1) (other-version xs out room h (eqb-false (getD xs 0 0) 1 f)) (eqb-false (getD xs 0 0) 1 f)))
+
+-- ---- no record is left behind
+
+module _ (xs : List ℕ) where
+  one-more : (most p : ℕ) (s : System (List ℕ)) → length xs < p + most → recordsFrom (suc most) xs p s ≡ recordsFrom most xs p s
+  unfolding recordsFrom after
+  one-more zero p s h =
+      ap (λ (r : Record). after zero xs r s) (at-end xs p (omega arith))
+      ∙ pick-true _ _ _ (eq-eqb 5 5 refl)
+  one-more (suc most) p s h =
+      both (λ (x y : Ended). x ≡ y) (eqb (recordAt xs p true .number) 5) _ _ _ _ (λ e. refl)
+      (λ e. both (λ (x y : Ended). x ≡ y) (leb 20 (recordAt xs p true .number)) _ _ _ _ (λ f. refl)
+      (λ f. ap (lineBefore (recordLine (recordAt xs p true .number) (effect xs (recordAt xs p true) s .number) (effect xs (recordAt xs p true) s .byte)))
+      (one-more most (recordAt xs p true .next) (effect xs (recordAt xs p true) s .system)
+      (omega (arith, h, stands xs p .takes (eqb-false (recordAt xs p true .number) 5 e) (λ z. omega (arith, leb-false 20 (recordAt xs p true .number) f, z)))))))
+
+pub all-read : (xs : List ℕ) → AllRead xs
+all-read xs zero = ap (λ (n : ℕ). recordsFrom n xs 1 start) (let z : 0 + length xs ≡ length xs = omega arith in z)
+all-read xs (suc more) =
+    ap (λ (n : ℕ). recordsFrom n xs 1 start) (let z : suc more + length xs ≡ suc (more + length xs) = omega arith in z)
+    ∙ one-more xs (more + length xs) 1 start (omega arith)
+    ∙ all-read xs more

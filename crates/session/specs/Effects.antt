@@ -19,13 +19,14 @@ pokes zero xs p address = []
 pokes (suc count) xs p address =
     record { address = address; byte = getD xs p 0 } ∷ pokes count xs (p + 1) ((address + 1) % 65536)
 
--- the entry that a record of a session stands for; a grant borrows the session's own buffers
+-- the entry that a record of a session stands for; a grant borrows the session's own buffers. What is no record changes
+-- nothing
 unfoldable pub entryOf : List ℕ → Record → Entry flat (List Poke)
 entryOf xs r =
     pick (eqb (r .number) 1) (portWrite (r .word) (r .byte))
     (pick (eqb (r .number) 2) (portRead (r .word))
     (pick (eqb (r .number) 3) (clockGrant (r .clocks) ownMemory ownLatches)
-    (outsideChange (pokes (r .next - r .start) xs (r .start) (r .word)))))
+    (pick (eqb (r .number) 4) (outsideChange (pokes (r .next - r .start) xs (r .start) (r .word))) (outsideChange []))))
 
 -- a record's effect
 abbrev pub effect : List ℕ → Record → System (List ℕ) → Answer (List ℕ)

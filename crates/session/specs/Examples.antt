@@ -6,7 +6,7 @@ use Prim.Native.Char.{code}
 use Prim.Native.String.{String, len, charAt}
 use mathlib.Core.Path.{_≡_}
 use mathlib.Core.List.{List, [], _∷_, _++_}
-use lib.ListN.{getD}
+use lib.ListN.{getD, replicate}
 use Rattle.session.specs.Sessions.{session}
 
 -- a text of ASCII as bytes
@@ -87,6 +87,10 @@ examples =
     ∷ example (1 ∷ 0 ∷ 4 ∷ 2 ∷ 0 ∷ 0x6B ∷ 0 ∷ []) "S 22\n" 22
     ∷ example (1 ∷ 0 ∷ 4 ∷ 3 ∷ 0 ∷ 0 ∷ 1 ∷ []) "S 22\n" 22
     ∷ example (1 ∷ 0 ∷ 3 ∷ 4 ∷ 0 ∷ 0 ∷ []) "S 22\n" 22
+    -- a memory record of 255 bytes, and one of 256: too long, or cut short
+    ∷ example (1 ∷ 1 ∷ 2 ∷ 4 ∷ 0 ∷ 1 ∷ replicate 255 9) "M 0\nB 0 0 0\n" 0
+    ∷ example (1 ∷ 1 ∷ 3 ∷ 4 ∷ 0 ∷ 1 ∷ replicate 256 9) "S 22\n" 22
+    ∷ example (1 ∷ 1 ∷ 3 ∷ 4 ∷ 0 ∷ 1 ∷ replicate 255 9) "S 21\n" 21
     -- a memory record that wraps at 65,536, before a fault that ends the session
     ∷ record {
       bytes = 1 ∷ 0 ∷ 5 ∷ 4 ∷ 0xFF ∷ 0xFF ∷ 7 ∷ 8 ∷ 0 ∷ 0 ∷ [] ++ grant 10;

@@ -59,8 +59,8 @@ ofKind xs p n k =
     (pick (eqb k 3) (grantRecord xs p n)
     (pick (eqb k 4) (memoryRecord xs p n) (none 22 p))))
 
--- what stands at place p, where `ended` says that no byte comes after those at hand. A record that is cut short is no
--- other fault; one of length 0 has no kind
+-- what stands at place p, where `ended` says that no byte comes after those at hand. Within one record 21 comes before 22;
+-- one of length 0 has no kind
 unfoldable pub recordAt : List ℕ → ℕ → Bool → Record
 recordAt xs p ended =
     pick (leb (length xs) p) (behind ended p)

@@ -1,7 +1,7 @@
 -- A whole session: its bytes in; its lines, its fault, and device and buffers at the end out. It begins at power-on with
 -- memory and latches of 65,536 zeros.
 -- Assumes nothing.
-use Prim.Native.Nat.{ℕ, zero, suc, _≤_}
+use Prim.Native.Nat.{ℕ, zero, suc, _+_, _≤_}
 use mathlib.Core.Path.{_≡_}
 use mathlib.Core.Bool.{true}
 use mathlib.Core.List.{List, [], _∷_, _++_}
@@ -15,7 +15,7 @@ use Rattle.rules.specs.Entries.{Poke, flatOutside, Entry, Answered, Run, run, s
 use Rattle.session.specs.Records.{recordAt}
 use Rattle.session.specs.Lines.{recordLine, countsLine, faultLine}
 use Rattle.session.specs.Effects.{entryOf, effect}
-use Rattle.session.specs.Steps.{Outcome, sessionAtStart, beside, stepOf}
+use Rattle.session.specs.Steps.{Outcome, sessionAtStart, systemWith, stepOf}
 use Rattle.session.specs.declared.parse.Record.{Record}
 use Rattle.session.specs.declared.step.Session.{Session}
 
@@ -50,6 +50,10 @@ recordsFrom (suc most) xs p s =
 -- a session: the version byte, 1, and the records behind it
 unfoldable pub session : List ℕ → Ended
 session xs = pick (eqb (getD xs 0 0) 1) (recordsFrom (length xs) xs 1 start) (endedBy (faultLine 20) 20 start)
+
+-- a session leaves no record behind: to allow for more records changes nothing
+abbrev pub AllRead : List ℕ → Type 0
+AllRead xs = (more : ℕ) → recordsFrom (more + length xs) xs 1 start ≡ recordsFrom (length xs) xs 1 start
 
 -- ---- the session as a list of calls
 
@@ -96,11 +100,11 @@ lineIn o = take (o .said .step .length) (o .said .line)
 
 -- device and buffers after a step
 abbrev pub systemIn : Outcome → System (List ℕ)
-systemIn o = beside (o .said .step .session .device) (o .buffers)
+systemIn o = systemWith (o .said .step .session .device) (o .buffers)
 
 -- steps with all bytes at hand, at most so many, until the session is over; `out` is the slice for the lines
 unfoldable pub stepsFrom : ℕ → Session → List ℕ → ℕ → List ℕ → Buffers (List ℕ) → Ended
-stepsFrom zero s xs p out b = endedBy [] 0 (beside (s .device) b)
+stepsFrom zero s xs p out b = endedBy [] 0 (systemWith (s .device) b)
 stepsFrom (suc most) s xs p out b =
     let o : Outcome = stepOf s xs p true out b in
     pick (eqb (o .said .step .number) 2) (endedBy (lineIn o) (o .said .step .fault) (systemIn o))

@@ -41,46 +41,46 @@ sessionAtStart = inPhase 0 0 deviceAtPowerOn
 -- ---- answers
 
 -- no line: the number, the next place, the session
-abbrev pub quiet : ℕ → ℕ → Session → Step
-quiet number next s = record { number = number; fault = 0; next = next; length = 0; session = s }
+abbrev pub stepWithoutLine : ℕ → ℕ → Session → Step
+stepWithoutLine number next s = record { number = number; fault = 0; next = next; length = 0; session = s }
 
-abbrev pub silent : ℕ → ℕ → Session → List ℕ → Said
-silent number next s out = record { step = quiet number next s; line = out }
+abbrev pub withoutLine : ℕ → ℕ → Session → List ℕ → Said
+withoutLine number next s out = record { step = stepWithoutLine number next s; line = out }
 
 -- a line: its bytes at the front, the rest of the slice as it was
-abbrev pub spoken : ℕ → ℕ → ℕ → List ℕ → Session → List ℕ → Said
-spoken number fault next bytes s out =
+abbrev pub withLine : ℕ → ℕ → ℕ → List ℕ → Session → List ℕ → Said
+withLine number fault next bytes s out =
     record {
       step = record { number = number; fault = fault; next = next; length = length bytes; session = s };
       line = placed 0 bytes out;
     }
 
 -- the last line of a session with a fault, and of one without
-abbrev pub faulty : ℕ → ℕ → Device → List ℕ → Said
-faulty fault next d out = spoken 2 fault next (faultLine fault) (inPhase 3 0 d) out
+abbrev pub lastFault : ℕ → ℕ → Device → List ℕ → Said
+lastFault fault next d out = withLine 2 fault next (faultLine fault) (inPhase 3 0 d) out
 
-abbrev pub ending : ℕ → Device → List ℕ → Said
-ending next d out = spoken 2 0 next (countsLine (d .clocks)) (inPhase 3 0 d) out
+abbrev pub lastCounts : ℕ → Device → List ℕ → Said
+lastCounts next d out = withLine 2 0 next (countsLine (d .clocks)) (inPhase 3 0 d) out
 
 -- an answer that leaves the buffers alone
-abbrev pub aside : Buffers (List ℕ) → Said → Outcome
-aside b said = record { said = said; buffers = b }
+abbrev pub buffersKept : Buffers (List ℕ) → Said → Outcome
+buffersKept b said = record { said = said; buffers = b }
 
 -- ---- the phases
 
 -- the version byte is 1
 unfoldable pub versionStep : Session → List ℕ → ℕ → Bool → List ℕ → Said
 versionStep s xs p ended out =
-    pick (leb (length xs) p) (pick ended (faulty 20 p (s .device) out) (silent 1 p s out))
-    (pick (eqb (getD xs p 0) 1) (silent 0 (p + 1) (inPhase 1 0 (s .device)) out) (faulty 20 (p + 1) (s .device) out))
+    pick (leb (length xs) p) (pick ended (lastFault 20 p (s .device) out) (withoutLine 1 p s out))
+    (pick (eqb (getD xs p 0) 1) (withoutLine 0 (p + 1) (inPhase 1 0 (s .device)) out) (lastFault 20 (p + 1) (s .device) out))
 
 -- within a record that is too long: its bytes are counted, and nothing else
 unfoldable pub longStep : Session → List ℕ → ℕ → Bool → List ℕ → Said
 longStep s xs p ended out =
-    pick (leb (s .left) (length xs - p)) (faulty 22 (p + s .left) (s .device) out)
+    pick (leb (s .left) (length xs - p)) (lastFault 22 (p + s .left) (s .device) out)
     (pick ended
-    (faulty 21 (p + (length xs - p)) (s .device) out)
-    (silent 1 (p + (length xs - p)) (inPhase 2 (s .left - (length xs - p)) (s .device)) out))
+    (lastFault 21 (p + (length xs - p)) (s .device) out)
+    (withoutLine 1 (p + (length xs - p)) (inPhase 2 (s .left - (length xs - p)) (s .device)) out))
 
 -- a record that was carried out
 abbrev pub deviceOf : System (List ℕ) → Device
@@ -90,35 +90,35 @@ abbrev pub carried : Record → Answer (List ℕ) → List ℕ → Outcome
 carried r a out =
     record {
       said =
-          spoken 0 0 (r .next) (recordLine (r .number) (a .number) (a .byte)) (inPhase 1 0 (deviceOf (a .system))) out;
+          withLine 0 0 (r .next) (recordLine (r .number) (a .number) (a .byte)) (inPhase 1 0 (deviceOf (a .system))) out;
       buffers = a .system .world .buffers;
     }
 
-abbrev pub beside : Device → Buffers (List ℕ) → System (List ℕ)
-beside d b = systemOf d (b .memory) (b .latches)
+abbrev pub systemWith : Device → Buffers (List ℕ) → System (List ℕ)
+systemWith d b = systemOf d (b .memory) (b .latches)
 
 -- by what stands at the place
 unfoldable pub byRecord : Record → Session → List ℕ → List ℕ → Buffers (List ℕ) → Outcome
 byRecord r s xs out b =
-    pick (eqb (r .number) 0) (aside b (silent 1 (r .next) s out))
-    (pick (eqb (r .number) 5) (aside b (ending (r .next) (s .device) out))
-    (pick (leb 20 (r .number)) (aside b (faulty (r .number) (r .next) (s .device) out))
-    (carried r (effect xs r (beside (s .device) b)) out)))
+    pick (eqb (r .number) 0) (buffersKept b (withoutLine 1 (r .next) s out))
+    (pick (eqb (r .number) 5) (buffersKept b (lastCounts (r .next) (s .device) out))
+    (pick (leb 20 (r .number)) (buffersKept b (lastFault (r .number) (r .next) (s .device) out))
+    (carried r (effect xs r (systemWith (s .device) b)) out)))
 
 unfoldable pub recordStep : Session → List ℕ → ℕ → Bool → List ℕ → Buffers (List ℕ) → Outcome
 recordStep s xs p ended out b =
     pick (eqb (longLength xs p) 0)
     (byRecord (recordAt xs p ended) s xs out b)
-    (aside b (silent 0 (p + 2) (inPhase 2 (longLength xs p) (s .device)) out))
+    (buffersKept b (withoutLine 0 (p + 2) (inPhase 2 (longLength xs p) (s .device)) out))
 
 -- a step: 9, and nothing else, where the slice for the line is shorter than 72 bytes. A phase above 2 is a session that is
 -- over
 unfoldable pub stepOf : Session → List ℕ → ℕ → Bool → List ℕ → Buffers (List ℕ) → Outcome
 stepOf s xs p ended out b =
-    pick (ltb (length out) 72) (aside b (silent 9 p s out))
-    (pick (eqb (s .phase) 0) (aside b (versionStep s xs p ended out))
+    pick (ltb (length out) 72) (buffersKept b (withoutLine 9 p s out))
+    (pick (eqb (s .phase) 0) (buffersKept b (versionStep s xs p ended out))
     (pick (eqb (s .phase) 1) (recordStep s xs p ended out b)
-    (pick (eqb (s .phase) 2) (aside b (longStep s xs p ended out)) (aside b (silent 2 p s out)))))
+    (pick (eqb (s .phase) 2) (buffersKept b (longStep s xs p ended out)) (buffersKept b (withoutLine 2 p s out)))))
 
 -- the answer in code, with the slices as they are left
 abbrev pub said : Step → List ℕ → Said

@@ -17,17 +17,11 @@ pub struct Effect {
     pub device: Device,
 }
 
-fn index(x: u16) -> usize
-    ensures { λ r. ⌜ r ≡ x ⌝ }
-{
-    x as usize
-}
-
 // A byte is put at an address; behind the end of the memory nothing is put.
 fn store(memory: &mut [u8], address: u16, byte: u8)
     ensures { λ r. ⌜ now (memory .exit) ≡ set (now (memory .entry)) address byte ⌝ }
 {
-    let at = index(address);
+    let at = parse::index(address);
     if at < memory.len() {
         memory[at] = byte;
         return;
@@ -58,7 +52,7 @@ pub fn carry_out(
 ) -> Effect
     ensures { λ r. ⌜ effectAnswer r (now (memory .exit)) (now (latches .exit)) ≡ effectOf (now (input .entry)) found (systemOf device (now (memory .entry)) (now (latches .entry))) ⌝ }
 {
-    if found.number == 1 {
+    if found.number == parse::WRITE {
         let answer = device.write(found.word, found.byte);
         let after = answer.device;
         return Effect {
@@ -67,7 +61,7 @@ pub fn carry_out(
             device: after,
         };
     }
-    if found.number == 2 {
+    if found.number == parse::READ {
         let answer = device.read(found.word);
         let after = answer.device;
         return Effect {
@@ -76,7 +70,7 @@ pub fn carry_out(
             device: after,
         };
     }
-    if found.number == 3 {
+    if found.number == parse::GRANT {
         let answer = device.grant(memory, latches, found.clocks);
         let after = answer.device;
         return Effect {
@@ -85,7 +79,14 @@ pub fn carry_out(
             device: after,
         };
     }
-    poke(input, found.start, found.next, memory, found.word);
+    if found.number == parse::MEMORY {
+        poke(input, found.start, found.next, memory, found.word);
+        return Effect {
+            number: 0,
+            byte: 0,
+            device,
+        };
+    }
     Effect {
         number: 0,
         byte: 0,

@@ -5,9 +5,10 @@ ghost use mathlib.Core.List.{[], _∷_};
 ghost use Prim.Native.Nat.{_+_, _≤_, _<_};
 ghost use lib.ListN.{length};
 ghost use Rattle.session.specs.Lines.{decimalTo, hexDigit, numberLine, readLine, recordLine, countsLine, faultLine, Put};
+use crate::parse;
 use rules::Clocks;
 
-// As many bytes as any line has, and some more.
+// The room that a caller lends for a line. The longest, of three counts with 20 digits each, has 65 bytes.
 pub const ROOM: usize = 72;
 
 // The most digits of a number of 64 bits.
@@ -118,13 +119,13 @@ pub fn put_record_line(kind: u8, number: u8, byte: u8, line: &mut [u8]) -> usize
     requires { ⌜ 72 ≤ length (now line) ⌝ }
     ensures { λ r. ⌜ Put (now (line .entry)) 0 (recordLine kind number byte) (now (line .exit)) r ⌝ }
 {
-    if kind == 1 {
+    if kind == parse::WRITE {
         return put_number_line(WRITE, number, line);
     }
-    if kind == 2 {
+    if kind == parse::READ {
         return put_read_line(number, byte, line);
     }
-    if kind == 3 {
+    if kind == parse::GRANT {
         return put_number_line(GRANT, number, line);
     }
     put_number_line(MEMORY, number, line)

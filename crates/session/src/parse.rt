@@ -21,6 +21,25 @@ pub struct Record {
     pub next: usize,
 }
 
+// The numbers of an answer: more bytes are needed; a record of each kind; the end of the input; the faults of a record.
+pub const MORE: u8 = 0;
+
+pub const WRITE: u8 = 1;
+
+pub const READ: u8 = 2;
+
+pub const GRANT: u8 = 3;
+
+pub const MEMORY: u8 = 4;
+
+pub const END: u8 = 5;
+
+// Cut short.
+pub const CUT: u8 = 21;
+
+// Of no kind, or not as long as its kind is.
+pub const WRONG: u8 = 22;
+
 // The longest record of any kind, without its length: a memory record of 255 bytes.
 const LONGEST: usize = 258;
 
@@ -36,7 +55,7 @@ fn widest(x: u16) -> u32
     x as u32
 }
 
-fn index(x: u16) -> usize
+pub fn index(x: u16) -> usize
     ensures { λ r. ⌜ (r ≡ x) × (r ≤ 65535) ⌝ }
 {
     x as usize
@@ -80,9 +99,9 @@ fn cut_short(ended: bool, place: usize) -> Record
     ensures { λ r. ⌜ r ≡ short ended place ⌝ }
 {
     if ended {
-        return no_record(21, place);
+        return no_record(CUT, place);
     }
-    no_record(0, place)
+    no_record(MORE, place)
 }
 
 // The place behind the bytes at hand.
@@ -90,9 +109,9 @@ fn behind_all(ended: bool, place: usize) -> Record
     ensures { λ r. ⌜ r ≡ behind ended place ⌝ }
 {
     if ended {
-        return no_record(5, place);
+        return no_record(END, place);
     }
-    no_record(0, place)
+    no_record(MORE, place)
 }
 
 // A port write, if n is its length.
@@ -104,7 +123,7 @@ fn write_record(input: &[u8], place: usize, n: usize) -> Record
         let port = word_at(input, place + 3);
         let byte = input[place + 5];
         return Record {
-            number: 1,
+            number: WRITE,
             word: port,
             byte,
             clocks: 0,
@@ -112,7 +131,7 @@ fn write_record(input: &[u8], place: usize, n: usize) -> Record
             next: place + 6,
         };
     }
-    no_record(22, place)
+    no_record(WRONG, place)
 }
 
 // A port read, if n is its length.
@@ -123,7 +142,7 @@ fn read_record(input: &[u8], place: usize, n: usize) -> Record
     if n == 3 {
         let port = word_at(input, place + 3);
         return Record {
-            number: 2,
+            number: READ,
             word: port,
             byte: 0,
             clocks: 0,
@@ -131,7 +150,7 @@ fn read_record(input: &[u8], place: usize, n: usize) -> Record
             next: place + 5,
         };
     }
-    no_record(22, place)
+    no_record(WRONG, place)
 }
 
 // A grant, if n is its length.
@@ -142,7 +161,7 @@ fn grant_record(input: &[u8], place: usize, n: usize) -> Record
     if n == 5 {
         let clocks = quad_at(input, place + 3);
         return Record {
-            number: 3,
+            number: GRANT,
             word: 0,
             byte: 0,
             clocks,
@@ -150,7 +169,7 @@ fn grant_record(input: &[u8], place: usize, n: usize) -> Record
             next: place + 7,
         };
     }
-    no_record(22, place)
+    no_record(WRONG, place)
 }
 
 // A memory record, if n is a length of one.
@@ -159,14 +178,14 @@ fn memory_record(input: &[u8], place: usize, n: usize) -> Record
     ensures { λ r. ⌜ r ≡ memoryRecord (now (input .entry)) place n ⌝ }
 {
     if n < 4 {
-        return no_record(22, place);
+        return no_record(WRONG, place);
     }
     if LONGEST < n {
-        return no_record(22, place);
+        return no_record(WRONG, place);
     }
     let address = word_at(input, place + 3);
     Record {
-        number: 4,
+        number: MEMORY,
         word: address,
         byte: 0,
         clocks: 0,
@@ -180,23 +199,24 @@ fn of_kind(input: &[u8], place: usize, n: usize, kind: u8) -> Record
     requires { ⌜ place + 2 + n ≤ length (now input) ⌝ }
     ensures { λ r. ⌜ r ≡ ofKind (now (input .entry)) place n kind ⌝ }
 {
-    if kind == 1 {
+    if kind == WRITE {
         return write_record(input, place, n);
     }
-    if kind == 2 {
+    if kind == READ {
         return read_record(input, place, n);
     }
-    if kind == 3 {
+    if kind == GRANT {
         return grant_record(input, place, n);
     }
-    if kind == 4 {
+    if kind == MEMORY {
         return memory_record(input, place, n);
     }
-    no_record(22, place)
+    no_record(WRONG, place)
 }
 
 // What stands at a place of the bytes at hand, where `ended` says that no byte comes after them. The place may lie
-// anywhere, also behind the bytes.
+// anywhere, also behind the bytes. Of a record that is too long for any kind it waits for all bytes: who cannot hold them
+// asks long_length first.
 pub fn record_at(input: &[u8], place: usize, ended: bool) -> Record
     ensures { λ r. ⌜ r ≡ recordAt (now (input .entry)) place ended ⌝ }
 {
@@ -211,7 +231,7 @@ pub fn record_at(input: &[u8], place: usize, ended: bool) -> Record
         return cut_short(ended, place);
     }
     if n == 0 {
-        return no_record(22, place);
+        return no_record(WRONG, place);
     }
     let kind = input[place + 2];
     of_kind(input, place, n, kind)

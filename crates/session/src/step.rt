@@ -4,7 +4,7 @@ ghost use Prim.Native.Nat.{_-_, _≤_};
 ghost use lib.ListN.{length};
 ghost use Rattle.clocking.specs.Answers.{borrowed};
 ghost use Rattle.zxndma.specs.Answers.{systemOf};
-ghost use Rattle.session.specs.Steps.{sessionAtStart, inPhase, quiet, faulty, ending, versionStep, longStep, carried, byRecord, recordStep, stepOf, said, outcome};
+ghost use Rattle.session.specs.Steps.{sessionAtStart, inPhase, stepWithoutLine, lastFault, lastCounts, versionStep, longStep, carried, byRecord, recordStep, stepOf, said, outcome};
 ghost use Rattle.session.specs.Effects.{effect as effectOf};
 use crate::effect;
 use crate::line;
@@ -20,6 +20,11 @@ const RECORDS: u8 = 1;
 const LONG: u8 = 2;
 
 const OVER: u8 = 3;
+
+// The fault of a session whose version is missing or not 1. No fault has a lower number.
+const NO_VERSION: u8 = 20;
+
+const FAULTS: u8 = NO_VERSION;
 
 // The answers of a step.
 
@@ -69,7 +74,7 @@ fn in_phase(phase: u8, left: usize, device: Device) -> Session
 
 // A step without a line.
 fn say_nothing(number: u8, next: usize, session: Session) -> Step
-    ensures { λ r. ⌜ r ≡ quiet number next session ⌝ }
+    ensures { λ r. ⌜ r ≡ stepWithoutLine number next session ⌝ }
 {
     Step {
         number,
@@ -83,7 +88,7 @@ fn say_nothing(number: u8, next: usize, session: Session) -> Step
 // The last step of a session with a fault.
 fn say_fault(fault: u8, next: usize, device: Device, out: &mut [u8]) -> Step
     requires { ⌜ 72 ≤ length (now out) ⌝ }
-    ensures { λ r. ⌜ said r (now (out .exit)) ≡ faulty fault next device (now (out .entry)) ⌝ }
+    ensures { λ r. ⌜ said r (now (out .exit)) ≡ lastFault fault next device (now (out .entry)) ⌝ }
 {
     let length = line::put_fault_line(fault, out);
     let session = in_phase(OVER, 0, device);
@@ -99,7 +104,7 @@ fn say_fault(fault: u8, next: usize, device: Device, out: &mut [u8]) -> Step
 // The last step of a session without a fault.
 fn say_counts(next: usize, device: Device, out: &mut [u8]) -> Step
     requires { ⌜ 72 ≤ length (now out) ⌝ }
-    ensures { λ r. ⌜ said r (now (out .exit)) ≡ ending next device (now (out .entry)) ⌝ }
+    ensures { λ r. ⌜ said r (now (out .exit)) ≡ lastCounts next device (now (out .entry)) ⌝ }
 {
     let clocks = device.clocks;
     let length = line::put_counts_line(clocks, out);
@@ -121,7 +126,7 @@ fn version_step(session: Session, input: &[u8], place: usize, ended: bool, out: 
     let device = session.device;
     if input.len() <= place {
         if ended {
-            return say_fault(20, place, device, out);
+            return say_fault(NO_VERSION, place, device, out);
         }
         return say_nothing(WAITS, place, session);
     }
@@ -129,7 +134,7 @@ fn version_step(session: Session, input: &[u8], place: usize, ended: bool, out: 
         let next = in_phase(RECORDS, 0, device);
         return say_nothing(GOES_ON, place + 1, next);
     }
-    say_fault(20, place + 1, device, out)
+    say_fault(NO_VERSION, place + 1, device, out)
 }
 
 // How many bytes stand from a place on.
@@ -151,10 +156,10 @@ fn long_step(session: Session, input: &[u8], place: usize, ended: bool, out: &mu
     let left = session.left;
     let rest = rest_of(input.len(), place);
     if left <= rest {
-        return say_fault(22, place + left, device, out);
+        return say_fault(parse::WRONG, place + left, device, out);
     }
     if ended {
-        return say_fault(21, place + rest, device, out);
+        return say_fault(parse::CUT, place + rest, device, out);
     }
     let next = in_phase(LONG, left - rest, device);
     say_nothing(WAITS, place + rest, next)
@@ -198,13 +203,13 @@ fn by_record(
     ensures { λ r. ⌜ outcome r (now (out .exit)) (now (memory .exit)) (now (latches .exit)) ≡ byRecord found session (now (input .entry)) (now (out .entry)) (borrowed (now (memory .entry)) (now (latches .entry))) ⌝ }
 {
     let device = session.device;
-    if found.number == 0 {
+    if found.number == parse::MORE {
         return say_nothing(WAITS, found.next, session);
     }
-    if found.number == 5 {
+    if found.number == parse::END {
         return say_counts(found.next, device, out);
     }
-    if 20 <= found.number {
+    if FAULTS <= found.number {
         return say_fault(found.number, found.next, device, out);
     }
     carry(found, input, device, out, memory, latches)

@@ -1,40 +1,61 @@
-use Rattle.session.proofs.Carrying.{carried-write, carried-read, carried-grant, carried-memory}
+use Rattle.session.proofs.Carrying.{carried-write, carried-read, carried-grant, carried-memory, carried-none}
 use borrow.Author.Needs.{needs}
 use Rattle.session.proofs.effect.carry_out.Statement.{statement}
 use Rattle.session.proofs.effect.carry_out.Tie as tie
+use Rattle.session.proofs.effect.carry_out.Reads as reads
+use Rattle.session.proofs.effect.carry_out.Lts as lts
+use Rattle.session.proofs.effect.poke.Reads as poke-reads
+use Rattle.zxndma.proofs.Device.grant.Reads as grant-reads
+use Rattle.zxndma.proofs.Device.read.Reads as read-reads
+use Rattle.zxndma.proofs.Device.write.Reads as write-reads
 
+-- src/effect.rt:56:13
 write-requires : tie.Need-write-requires
 write-requires c κs = search needs
 
+-- src/effect.rt:58:9
 returns : tie.Need-returns
 returns c = carried-write _ _ _ _ _ _ (c .before .before .if1 .taken) (c .before .write .ensures)
 
+-- src/effect.rt:65:13
 read-requires : tie.Need-read-requires
 read-requires c κs = search needs
 
+-- src/effect.rt:67:9
 returns-2 : tie.Need-returns-2
 returns-2 c = carried-read _ _ _ _ _ _ (c .before .before .before .before .if1 .left) (c .before .before .if2 .taken) (c .before .read .ensures)
 
+-- src/effect.rt:74:13
 grant-requires : tie.Need-grant-requires
 grant-requires c κs = search needs
 
+-- src/effect.rt:76:9
 same-length : tie.Need-same-length
 same-length c = search needs
 
+-- src/effect.rt:76:9
 same-length-2 : tie.Need-same-length-2
 same-length-2 c = search needs
 
+-- src/effect.rt:76:9
 returns-3 : tie.Need-returns-3
 returns-3 c = carried-grant _ _ _ _ _ _ _ _ (c .before .before .before .before .before .before .before .before .before .before .before .before .if1 .left) (c .before .before .before .before .before .before .before .before .before .before .if2 .left) (c .before .before .before .before .before .before .before .before .if3 .taken) (c .before .before .before .before .before .grant .ensures)
 
+-- src/effect.rt:83:9
 poke-requires : tie.Need-poke-requires
 poke-requires c κs = search needs
 
+-- src/effect.rt:84:9
 same-length-3 : tie.Need-same-length-3
 same-length-3 c = search needs
 
+-- src/effect.rt:84:9
 returns-4 : tie.Need-returns-4
-returns-4 c = carried-memory _ _ _ _ _ _ (c .before .before .before .before .before .before .before .before .if1 .left) (c .before .before .before .before .before .before .if2 .left) (c .before .before .before .before .if3 .left) (c .before .before .poke .ensures)
+returns-4 c = carried-memory _ _ _ _ _ _ (record { write = c .before .before .before .before .before .before .before .before .before .before .if1 .left; read = c .before .before .before .before .before .before .before .before .if2 .left; grant = c .before .before .before .before .before .before .if3 .left }) (c .before .before .before .before .if4 .taken) (c .before .before .poke .ensures)
+
+-- src/effect.rt:46:1
+returns-5 : tie.Need-returns-5
+returns-5 c = carried-none _ _ _ _ _ (record { write = c .before .before .before .before .before .before .if1 .left; read = c .before .before .before .before .if2 .left; grant = c .before .before .if3 .left }) (c .if4 .left)
 
 pub carry-out-spec : {M : Type 1} → statement M
 carry-out-spec =
@@ -50,4 +71,5 @@ carry-out-spec =
     returns-3
     poke-requires
     same-length-3
-    returns-4)
+    returns-4
+    returns-5)
