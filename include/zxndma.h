@@ -149,12 +149,14 @@ bool zxndma_valid(zxndma_device device);
 
 #ifdef __cplusplus
 #define ZXNDMA_ASSERT(name, fact) static_assert(fact, "layout of zxndma: " #name)
+#define ZXNDMA_SIZE_OF(part, field) sizeof(part::field)
 #else
 #define ZXNDMA_ASSERT(name, fact) typedef char zxndma_assert_##name[(fact) ? 1 : -1]
+#define ZXNDMA_SIZE_OF(part, field) sizeof(((part *)0)->field)
 #endif
 /* A field's offset and size, and a struct's size, in bytes. */
 #define ZXNDMA_FIELD(part, field, offset, size)                                                                       \
-    ZXNDMA_ASSERT(part##_##field, offsetof(zxndma_##part, field) == (offset) && sizeof(((zxndma_##part *)0)->field) == (size))
+    ZXNDMA_ASSERT(part##_##field, offsetof(zxndma_##part, field) == (offset) && ZXNDMA_SIZE_OF(zxndma_##part, field) == (size))
 #define ZXNDMA_SIZE(part, size) ZXNDMA_ASSERT(part##_size, sizeof(zxndma_##part) == (size))
 
 ZXNDMA_FIELD(port, address, 0, 2);
@@ -219,6 +221,7 @@ ZXNDMA_SIZE(grant_answer, 88);
 
 #undef ZXNDMA_SIZE
 #undef ZXNDMA_FIELD
+#undef ZXNDMA_SIZE_OF
 #undef ZXNDMA_ASSERT
 
 #ifdef __cplusplus

@@ -13,6 +13,8 @@ mod generate;
 mod process;
 #[path = "reference.rs"]
 mod reference;
+#[path = "stored.rs"]
+mod stored;
 
 use generate::Rng;
 use std::process::{ExitCode, Output};
@@ -75,19 +77,6 @@ fn days_since_epoch() -> Result<u64, String> {
     let since = SystemTime::now().duration_since(UNIX_EPOCH);
     let since = since.map_err(|_| "the system clock stands before 1970".to_string())?;
     Ok(since.as_secs() / (24 * 60 * 60))
-}
-
-/// The bytes of a stored session.
-fn stored_session(file: &str) -> Result<Vec<u8>, String> {
-    let text = std::fs::read_to_string(file).map_err(|error| format!("{file}: {error}"))?;
-    let lines = text.lines().map(|line| line.split('#').next().unwrap_or(""));
-    let digits: Vec<char> = lines.flat_map(str::chars).filter(|c| !c.is_whitespace()).collect();
-    let pairs = digits.chunks(2).map(|pair| match *pair {
-        [high, low] => Some(high.to_digit(16)? as u8 * 16 + low.to_digit(16)? as u8),
-        _ => None,
-    });
-    let bytes: Option<Vec<u8>> = pairs.collect();
-    bytes.ok_or_else(|| format!("{file}: not pairs of hex digits"))
 }
 
 // ---- One comparison ------------------------------------------------------
@@ -374,7 +363,7 @@ fn compare_random(arguments: &Arguments) -> Result<Tally, Failure> {
 
 fn compare_all(arguments: &Arguments) -> Result<String, Failure> {
     for file in &arguments.files {
-        let session = stored_session(file).map_err(Failure::Unable)?;
+        let session = stored::session(file).map_err(Failure::Unable)?;
         compare(file, &session, Bench { program: &arguments.bench, pieces: None })?;
     }
     let tally = compare_random(arguments)?;

@@ -1,7 +1,8 @@
 //! Compares the linked library with the second program: on devices of any
 //! content, with any port, byte, clocks and buffers, and on sessions. Every
 //! answer is compared whole: number, byte, each field of the device, and
-//! after a grant both buffers.
+//! after a grant both buffers; a write and a read are lent none. The sessions
+//! of a seed are those that `compare.rs` makes of it.
 
 #![deny(unsafe_code)]
 
@@ -9,6 +10,8 @@
 mod generate;
 #[path = "reference.rs"]
 mod reference;
+#[path = "stored.rs"]
+mod stored;
 #[path = "zxndma.rs"]
 mod zxndma;
 
@@ -19,7 +22,7 @@ use zxndma::{Block, Clocks, Control, Core, Device, Pending, Port, Readback, Slot
 
 const USAGE: &str = "usage: states [--calls N] [--sessions N] [--seed N]... [FILE.hex]...
 Compares the linked library with the second program, for each seed by N calls
-on made devices (1000000) and N made sessions (300), and on the stored sessions.
+on made devices (1000000) and N made sessions (5000), and on the stored sessions.
 Fails at the first difference, or if some refusal never occurred.";
 
 // ---- Both sides ----------------------------------------------------------
@@ -632,7 +635,7 @@ fn run_session(bench: &mut Bench, session: &[u8]) -> Result<(), String> {
 }
 
 fn made_sessions(bench: &mut Bench, seed: u64, sessions: u64) -> Result<(), String> {
-    for number in 0..sessions {
+    for number in 1..=sessions {
         let session = generate::session(&mut Rng::numbered(seed, number));
         let place = |case| format!("seed {}, session {}: {}", seed, number, case);
         run_session(bench, &session).map_err(place)?;
@@ -640,23 +643,9 @@ fn made_sessions(bench: &mut Bench, seed: u64, sessions: u64) -> Result<(), Stri
     Ok(())
 }
 
-/// Pairs of hex digits, blanks anywhere, comments from '#' to the line's end.
-fn session_bytes(text: &str) -> Result<Vec<u8>, String> {
-    let code: String = text.lines().filter_map(|line| line.split('#').next()).collect();
-    let digits: Option<Vec<u8>> =
-        code.chars().filter(|c| !c.is_whitespace()).map(|c| Some(c.to_digit(16)? as u8)).collect();
-    let digits = digits.ok_or("not hex digits")?;
-    if digits.len() % 2 != 0 {
-        return Err("an odd number of hex digits".into());
-    }
-    Ok(digits.chunks(2).map(|pair| 16 * pair[0] + pair[1]).collect())
-}
-
 fn stored_session(bench: &mut Bench, path: &str) -> Result<(), String> {
-    let place = |fault: String| format!("{}: {}", path, fault);
-    let text = std::fs::read_to_string(path).map_err(|error| place(error.to_string()))?;
-    let session = session_bytes(&text).map_err(place)?;
-    run_session(bench, &session).map_err(place)
+    let session = stored::session(path)?;
+    run_session(bench, &session).map_err(|case| format!("{}: {}", path, case))
 }
 
 // ---- The program ---------------------------------------------------------
@@ -671,7 +660,7 @@ struct Options {
 /// The options, or what is wrong with them.
 fn options(mut words: impl Iterator<Item = String>) -> Result<Options, String> {
     let mut options =
-        Options { calls: 1_000_000, sessions: 300, seeds: Vec::new(), paths: Vec::new() };
+        Options { calls: 1_000_000, sessions: 5_000, seeds: Vec::new(), paths: Vec::new() };
     while let Some(word) = words.next() {
         if !word.starts_with("--") {
             options.paths.push(word);
