@@ -1,5 +1,5 @@
 // Sessions of the bench program: the records of a session's bytes, what each does, and the lines that are written.
 mod effect;
 mod line;
-pub mod parse;
+mod parse;
 pub mod step;
