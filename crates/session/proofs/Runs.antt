@@ -7,11 +7,12 @@ use mathlib.Core.Bool.{Bool, true, false}
 use mathlib.Core.List.{List, [], _∷_, _++_, append-assoc}
 use borrow.Author.Tests.{leb-true, ne-eqb}
 use lib.Dec.{eqb, leb}
-use lib.ListN.{length, getD}
+use lib.ListN.{length, getD, replicate}
 use Rattle.rules.specs.Choice.{pick}
 use Rattle.rules.specs.Buffers.{flat}
 use Rattle.rules.specs.World.{System}
 use Rattle.rules.specs.Entries.{flatOutside, run}
+use Rattle.rules.proofs.Accounts.{demand3-flat}
 use Rattle.session.specs.Records.{recordAt}
 use Rattle.session.specs.Lines.{recordLine, countsLine, faultLine}
 use Rattle.session.specs.Effects.{effect}
@@ -66,4 +67,9 @@ agrees xs =
     (λ e. agrees-fault xs start 20 (ne-eqb 20 0 (λ z. omega (arith, z))))
 
 pub session-runs : (xs : List ℕ) → SessionRuns xs
-session-runs xs = record { system = agrees xs .system; lines = agrees xs .lines }
+session-runs xs =
+    record {
+      system = agrees xs .system;
+      lines = agrees xs .lines;
+      accounted = demand3-flat .0 (replicate 65536 0) (replicate 65536 0) (entriesOf xs (decoded xs));
+    }

@@ -5,7 +5,7 @@ use mathlib.Core.Path.{_≡_}
 use mathlib.Core.Bool.{Bool, false}
 use mathlib.Core.List.{List, _++_}
 use Rattle.rules.specs.Buffers.{Buffers}
-use Rattle.session.specs.Steps.{Outcome, stepOf}
+use Rattle.session.specs.Steps.{needsBytes, Outcome, stepOf}
 use Rattle.session.specs.declared.step.Session.{Session}
 
 -- the step that goes on from an outcome, with these bytes at hand
@@ -15,5 +15,5 @@ next o xs ended = stepOf (o .said .step .session) xs (o .said .step .next) ended
 -- of a step over the bytes xs, with more to come: where it does not wait, it is the step over xs and any further bytes ys;
 -- where it waits, the step that goes on from it over xs and ys is the step over them from where it began
 pub record StepStands (s : Session) (xs : List ℕ) (p : ℕ) (out : List ℕ) (b : Buffers (List ℕ)) (ys : List ℕ) (ended : Bool) : Type 0 where
-  pub stands : (stepOf s xs p false out b .said .step .number ≡ 1 → ⊥) → stepOf s (xs ++ ys) p ended out b ≡ stepOf s xs p false out b
-  pub waits : stepOf s xs p false out b .said .step .number ≡ 1 → next (stepOf s xs p false out b) (xs ++ ys) ended ≡ stepOf s (xs ++ ys) p ended out b
+  pub stands : (stepOf s xs p false out b .said .step .number ≡ needsBytes → ⊥) → stepOf s (xs ++ ys) p ended out b ≡ stepOf s xs p false out b
+  pub waits : stepOf s xs p false out b .said .step .number ≡ needsBytes → next (stepOf s xs p false out b) (xs ++ ys) ended ≡ stepOf s (xs ++ ys) p ended out b

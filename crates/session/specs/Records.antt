@@ -17,38 +17,56 @@ word xs p = 256 * getD xs p 0 + getD xs (p + 1) 0
 unfoldable pub quad : List ℕ → ℕ → ℕ
 quad xs p = 65536 * word xs p + word xs (p + 2)
 
--- no record at this place: 0 where more bytes are needed, 5 where the input ends with the last record, else a fault
+-- the numbers of what is no record: more bytes are needed; the input ends with the last record; a record is cut short; a
+-- record is of no kind, or not as long as its kind is
+abbrev pub moreNeeded : ℕ
+moreNeeded = 0
+
+abbrev pub inputEnds : ℕ
+inputEnds = 5
+
+abbrev pub cutShort : ℕ
+cutShort = 21
+
+abbrev pub wrongRecord : ℕ
+wrongRecord = 22
+
+-- the longest record of any kind, without its length: a memory record of 255 bytes
+abbrev pub longest : ℕ
+longest = 258
+
+-- no record at this place
 abbrev pub none : ℕ → ℕ → Record
 none number place = record { number = number; word = 0; byte = 0; clocks = 0; start = 0; next = place }
 
 -- a record that is not all there: a fault only where the input ends
 unfoldable pub short : Bool → ℕ → Record
-short ended p = pick ended (none 21 p) (none 0 p)
+short ended p = pick ended (none cutShort p) (none moreNeeded p)
 
 -- the place behind the bytes at hand
 unfoldable pub behind : Bool → ℕ → Record
-behind ended p = pick ended (none 5 p) (none 0 p)
+behind ended p = pick ended (none inputEnds p) (none moreNeeded p)
 
 -- the records of each kind, at place p with n bytes after the length. Each kind has its length
 unfoldable pub writeRecord : List ℕ → ℕ → ℕ → Record
 writeRecord xs p n =
     pick (eqb n 4)
     (record { number = 1; word = word xs (p + 3); byte = getD xs (p + 5) 0; clocks = 0; start = 0; next = p + 6 })
-    (none 22 p)
+    (none wrongRecord p)
 
 unfoldable pub readRecord : List ℕ → ℕ → ℕ → Record
 readRecord xs p n =
-    pick (eqb n 3) (record { number = 2; word = word xs (p + 3); byte = 0; clocks = 0; start = 0; next = p + 5 }) (none 22 p)
+    pick (eqb n 3) (record { number = 2; word = word xs (p + 3); byte = 0; clocks = 0; start = 0; next = p + 5 }) (none wrongRecord p)
 
 unfoldable pub grantRecord : List ℕ → ℕ → ℕ → Record
 grantRecord xs p n =
-    pick (eqb n 5) (record { number = 3; word = 0; byte = 0; clocks = quad xs (p + 3); start = 0; next = p + 7 }) (none 22 p)
+    pick (eqb n 5) (record { number = 3; word = 0; byte = 0; clocks = quad xs (p + 3); start = 0; next = p + 7 }) (none wrongRecord p)
 
 -- 1 to 255 bytes behind the address
 unfoldable pub memoryRecord : List ℕ → ℕ → ℕ → Record
 memoryRecord xs p n =
-    pick (ltb n 4) (none 22 p)
-    (pick (ltb 258 n) (none 22 p)
+    pick (ltb n 4) (none wrongRecord p)
+    (pick (ltb longest n) (none wrongRecord p)
     (record { number = 4; word = word xs (p + 3); byte = 0; clocks = 0; start = p + 5; next = p + 2 + n }))
 
 -- a record of which all n bytes are there, by its kind k
@@ -57,7 +75,7 @@ ofKind xs p n k =
     pick (eqb k 1) (writeRecord xs p n)
     (pick (eqb k 2) (readRecord xs p n)
     (pick (eqb k 3) (grantRecord xs p n)
-    (pick (eqb k 4) (memoryRecord xs p n) (none 22 p))))
+    (pick (eqb k 4) (memoryRecord xs p n) (none wrongRecord p))))
 
 -- what stands at place p, where `ended` says that no byte comes after those at hand. Within one record 21 comes before 22;
 -- one of length 0 has no kind
@@ -66,10 +84,10 @@ recordAt xs p ended =
     pick (leb (length xs) p) (behind ended p)
     (pick (leb (length xs) (p + 1)) (short ended p)
     (pick (ltb (length xs - (p + 2)) (word xs p)) (short ended p)
-    (pick (eqb (word xs p) 0) (none 22 p) (ofKind xs p (word xs p) (getD xs (p + 2) 0)))))
+    (pick (eqb (word xs p) 0) (none wrongRecord p) (ofKind xs p (word xs p) (getD xs (p + 2) 0)))))
 
 -- the length of a record that is too long for any kind, once both bytes of the length are at hand, else 0: such a record
 -- need not be stored to find its fault
 unfoldable pub longLength : List ℕ → ℕ → ℕ
 longLength xs p =
-    pick (leb (length xs) p) 0 (pick (leb (length xs) (p + 1)) 0 (pick (ltb 258 (word xs p)) (word xs p) 0))
+    pick (leb (length xs) p) 0 (pick (leb (length xs) (p + 1)) 0 (pick (ltb longest (word xs p)) (word xs p) 0))

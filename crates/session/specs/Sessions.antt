@@ -12,10 +12,11 @@ use Rattle.rules.specs.Buffers.{Buffers, flat}
 use Rattle.rules.specs.World.{System}
 use Rattle.rules.specs.Calls.{Answer}
 use Rattle.rules.specs.Entries.{Poke, flatOutside, Entry, Answered, Run, run, systemAtPowerOn}
-use Rattle.session.specs.Records.{recordAt}
+use Rattle.rules.specs.Accounts.{Accounted}
+use Rattle.session.specs.Records.{inputEnds, recordAt}
 use Rattle.session.specs.Lines.{recordLine, countsLine, faultLine}
 use Rattle.session.specs.Effects.{entryOf, effect}
-use Rattle.session.specs.Steps.{Outcome, sessionAtStart, systemWith, stepOf}
+use Rattle.session.specs.Steps.{isOver, room, noVersion, Outcome, sessionAtStart, systemWith, stepOf}
 use Rattle.session.specs.declared.parse.Record.{Record}
 use Rattle.session.specs.declared.step.Session.{Session}
 
@@ -43,13 +44,13 @@ recordsFrom zero xs p s = endedBy (countsLine (s .clocks)) 0 s
 recordsFrom (suc most) xs p s =
     let r : Record = recordAt xs p true in
     let a : Answer (List ℕ) = effect xs r s in
-    pick (eqb (r .number) 5) (endedBy (countsLine (s .clocks)) 0 s)
-    (pick (leb 20 (r .number)) (endedBy (faultLine (r .number)) (r .number) s)
+    pick (eqb (r .number) inputEnds) (endedBy (countsLine (s .clocks)) 0 s)
+    (pick (leb noVersion (r .number)) (endedBy (faultLine (r .number)) (r .number) s)
     (lineBefore (recordLine (r .number) (a .number) (a .byte)) (recordsFrom most xs (r .next) (a .system))))
 
 -- a session: the version byte, 1, and the records behind it
 unfoldable pub session : List ℕ → Ended
-session xs = pick (eqb (getD xs 0 0) 1) (recordsFrom (length xs) xs 1 start) (endedBy (faultLine 20) 20 start)
+session xs = pick (eqb (getD xs 0 0) 1) (recordsFrom (length xs) xs 1 start) (endedBy (faultLine noVersion) noVersion start)
 
 -- a session leaves no record behind: to allow for more records changes nothing
 abbrev pub AllRead : List ℕ → Type 0
@@ -62,7 +63,7 @@ unfoldable pub decodedFrom : ℕ → List ℕ → ℕ → List Record
 decodedFrom zero xs p = []
 decodedFrom (suc most) xs p =
     let r : Record = recordAt xs p true in
-    pick (eqb (r .number) 5) [] (pick (leb 20 (r .number)) [] (r ∷ decodedFrom most xs (r .next)))
+    pick (eqb (r .number) inputEnds) [] (pick (leb noVersion (r .number)) [] (r ∷ decodedFrom most xs (r .next)))
 
 unfoldable pub decoded : List ℕ → List Record
 decoded xs = pick (eqb (getD xs 0 0) 1) (decodedFrom (length xs) xs 1) []
@@ -86,11 +87,12 @@ linesOf (r ∷ rs) (a ∷ answers) = recordLine (r .number) (a .number) (a .byte
 unfoldable pub lastLine : ℕ → System (List ℕ) → List ℕ
 lastLine fault s = pick (eqb fault 0) (countsLine (s .clocks)) (faultLine fault)
 
--- a session is the run of its calls: device and buffers at the end are the run's, and the lines are those of the run's
--- answers, in order, and the last one
+-- a session is the run of its calls: device and buffers at the end are the run's, the lines are those of the run's answers,
+-- in order, and the last one; and demand 3 holds of its list
 pub record SessionRuns (xs : List ℕ) : Type 0 where
   pub system : session xs .system ≡ runOf xs .system
   pub lines : session xs .lines ≡ linesOf (decoded xs) (runOf xs .answers) ++ lastLine (session xs .fault) (runOf xs .system)
+  pub accounted : Accounted flat flatOutside (replicate 65536 0) (replicate 65536 0) (entriesOf xs (decoded xs))
 
 -- ---- the session as it is read by steps
 
@@ -107,7 +109,7 @@ unfoldable pub stepsFrom : ℕ → Session → List ℕ → ℕ → List ℕ →
 stepsFrom zero s xs p out b = endedBy [] 0 (systemWith (s .device) b)
 stepsFrom (suc most) s xs p out b =
     let o : Outcome = stepOf s xs p true out b in
-    pick (eqb (o .said .step .number) 2) (endedBy (lineIn o) (o .said .step .fault) (systemIn o))
+    pick (eqb (o .said .step .number) isOver) (endedBy (lineIn o) (o .said .step .fault) (systemIn o))
     (lineBefore (lineIn o)
     (stepsFrom most (o .said .step .session) xs (o .said .step .next) (o .said .line) (o .buffers)))
 
@@ -116,5 +118,5 @@ stepsFrom (suc most) s xs p out b =
 abbrev pub StepsRead : List ℕ → Type 0
 StepsRead xs =
     (out : List ℕ)
-    → 72 ≤ length out
+    → room ≤ length out
     → stepsFrom (suc (suc (suc (length xs)))) sessionAtStart xs 0 out (start .world .buffers) ≡ session xs

@@ -13,7 +13,7 @@ use Rattle.rules.specs.World.{System}
 use Rattle.rules.specs.Calls.{Answer}
 use Rattle.zxndma.specs.Answers.{deviceAtPowerOn, systemOf}
 use Rattle.zxndma.specs.declared.Device.{Device}
-use Rattle.session.specs.Records.{recordAt, longLength}
+use Rattle.session.specs.Records.{moreNeeded, inputEnds, cutShort, wrongRecord, recordAt, longLength}
 use Rattle.session.specs.Lines.{recordLine, countsLine, faultLine}
 use Rattle.session.specs.Effects.{effect}
 use Rattle.session.specs.declared.parse.Record.{Record}
@@ -30,15 +30,48 @@ pub record Outcome : Type 0 where
   pub said : Said
   pub buffers : Buffers (List ℕ)
 
--- ---- a session before its first byte, and in each phase
+-- ---- the phases of a session: its version byte comes next; a record does; it is within a record that is too long for any
+-- kind; it is over
+
+abbrev pub atVersion : ℕ
+atVersion = 0
+
+abbrev pub atRecord : ℕ
+atRecord = 1
+
+abbrev pub inLong : ℕ
+inLong = 2
+
+abbrev pub over : ℕ
+over = 3
 
 abbrev pub inPhase : ℕ → ℕ → Device → Session
 inPhase phase left d = record { phase = phase; left = left; device = d }
 
 abbrev pub sessionAtStart : Session
-sessionAtStart = inPhase 0 0 deviceAtPowerOn
+sessionAtStart = inPhase atVersion 0 deviceAtPowerOn
 
--- ---- answers
+-- ---- answers: bytes were taken; more bytes are needed; the session is over; the slice for the line is too short
+
+abbrev pub goesOn : ℕ
+goesOn = 0
+
+abbrev pub needsBytes : ℕ
+needsBytes = 1
+
+abbrev pub isOver : ℕ
+isOver = 2
+
+abbrev pub noRoom : ℕ
+noRoom = 9
+
+-- the bytes that the slice for a line must have
+abbrev pub room : ℕ
+room = 72
+
+-- the fault of a session whose version is missing or not 1; no fault has a lower number
+abbrev pub noVersion : ℕ
+noVersion = 20
 
 -- no line: the number, the next place, the session
 abbrev pub stepWithoutLine : ℕ → ℕ → Session → Step
@@ -57,10 +90,10 @@ withLine number fault next bytes s out =
 
 -- the last line of a session with a fault, and of one without
 abbrev pub lastFault : ℕ → ℕ → Device → List ℕ → Said
-lastFault fault next d out = withLine 2 fault next (faultLine fault) (inPhase 3 0 d) out
+lastFault fault next d out = withLine isOver fault next (faultLine fault) (inPhase over 0 d) out
 
 abbrev pub lastCounts : ℕ → Device → List ℕ → Said
-lastCounts next d out = withLine 2 0 next (countsLine (d .clocks)) (inPhase 3 0 d) out
+lastCounts next d out = withLine isOver 0 next (countsLine (d .clocks)) (inPhase over 0 d) out
 
 -- an answer that leaves the buffers alone
 abbrev pub buffersKept : Buffers (List ℕ) → Said → Outcome
@@ -71,16 +104,16 @@ buffersKept b said = record { said = said; buffers = b }
 -- the version byte is 1
 unfoldable pub versionStep : Session → List ℕ → ℕ → Bool → List ℕ → Said
 versionStep s xs p ended out =
-    pick (leb (length xs) p) (pick ended (lastFault 20 p (s .device) out) (withoutLine 1 p s out))
-    (pick (eqb (getD xs p 0) 1) (withoutLine 0 (p + 1) (inPhase 1 0 (s .device)) out) (lastFault 20 (p + 1) (s .device) out))
+    pick (leb (length xs) p) (pick ended (lastFault noVersion p (s .device) out) (withoutLine needsBytes p s out))
+    (pick (eqb (getD xs p 0) 1) (withoutLine goesOn (p + 1) (inPhase atRecord 0 (s .device)) out) (lastFault noVersion (p + 1) (s .device) out))
 
 -- within a record that is too long: its bytes are counted, and nothing else
 unfoldable pub longStep : Session → List ℕ → ℕ → Bool → List ℕ → Said
 longStep s xs p ended out =
-    pick (leb (s .left) (length xs - p)) (lastFault 22 (p + s .left) (s .device) out)
+    pick (leb (s .left) (length xs - p)) (lastFault wrongRecord (p + s .left) (s .device) out)
     (pick ended
-    (lastFault 21 (p + (length xs - p)) (s .device) out)
-    (withoutLine 1 (p + (length xs - p)) (inPhase 2 (s .left - (length xs - p)) (s .device)) out))
+    (lastFault cutShort (p + (length xs - p)) (s .device) out)
+    (withoutLine needsBytes (p + (length xs - p)) (inPhase inLong (s .left - (length xs - p)) (s .device)) out))
 
 -- a record that was carried out
 abbrev pub deviceOf : System (List ℕ) → Device
@@ -90,7 +123,7 @@ abbrev pub carried : Record → Answer (List ℕ) → List ℕ → Outcome
 carried r a out =
     record {
       said =
-          withLine 0 0 (r .next) (recordLine (r .number) (a .number) (a .byte)) (inPhase 1 0 (deviceOf (a .system))) out;
+          withLine goesOn 0 (r .next) (recordLine (r .number) (a .number) (a .byte)) (inPhase atRecord 0 (deviceOf (a .system))) out;
       buffers = a .system .world .buffers;
     }
 
@@ -100,25 +133,24 @@ systemWith d b = systemOf d (b .memory) (b .latches)
 -- by what stands at the place
 unfoldable pub byRecord : Record → Session → List ℕ → List ℕ → Buffers (List ℕ) → Outcome
 byRecord r s xs out b =
-    pick (eqb (r .number) 0) (buffersKept b (withoutLine 1 (r .next) s out))
-    (pick (eqb (r .number) 5) (buffersKept b (lastCounts (r .next) (s .device) out))
-    (pick (leb 20 (r .number)) (buffersKept b (lastFault (r .number) (r .next) (s .device) out))
+    pick (eqb (r .number) moreNeeded) (buffersKept b (withoutLine needsBytes (r .next) s out))
+    (pick (eqb (r .number) inputEnds) (buffersKept b (lastCounts (r .next) (s .device) out))
+    (pick (leb noVersion (r .number)) (buffersKept b (lastFault (r .number) (r .next) (s .device) out))
     (carried r (effect xs r (systemWith (s .device) b)) out)))
 
 unfoldable pub recordStep : Session → List ℕ → ℕ → Bool → List ℕ → Buffers (List ℕ) → Outcome
 recordStep s xs p ended out b =
     pick (eqb (longLength xs p) 0)
     (byRecord (recordAt xs p ended) s xs out b)
-    (buffersKept b (withoutLine 0 (p + 2) (inPhase 2 (longLength xs p) (s .device)) out))
+    (buffersKept b (withoutLine goesOn (p + 2) (inPhase inLong (longLength xs p) (s .device)) out))
 
--- a step: 9, and nothing else, where the slice for the line is shorter than 72 bytes. A phase above 2 is a session that is
--- over
+-- a step: nothing but its number where the slice for the line is too short. A phase above 2 is a session that is over
 unfoldable pub stepOf : Session → List ℕ → ℕ → Bool → List ℕ → Buffers (List ℕ) → Outcome
 stepOf s xs p ended out b =
-    pick (ltb (length out) 72) (buffersKept b (withoutLine 9 p s out))
-    (pick (eqb (s .phase) 0) (buffersKept b (versionStep s xs p ended out))
-    (pick (eqb (s .phase) 1) (recordStep s xs p ended out b)
-    (pick (eqb (s .phase) 2) (buffersKept b (longStep s xs p ended out)) (buffersKept b (withoutLine 2 p s out)))))
+    pick (ltb (length out) room) (buffersKept b (withoutLine noRoom p s out))
+    (pick (eqb (s .phase) atVersion) (buffersKept b (versionStep s xs p ended out))
+    (pick (eqb (s .phase) atRecord) (recordStep s xs p ended out b)
+    (pick (eqb (s .phase) inLong) (buffersKept b (longStep s xs p ended out)) (buffersKept b (withoutLine isOver p s out)))))
 
 -- the answer in code, with the slices as they are left
 abbrev pub said : Step → List ℕ → Said
