@@ -23,8 +23,7 @@ use Rattle.rules.specs.Refusals.{accessRefusal, grantRefusal}
 use Rattle.rules.specs.Calls.{Reply, Answer, writeReply, readReply, beside, write, read, grantNumber, grant}
 use Rattle.rules.specs.Entries.{Outside, Poke, poked, flatOutside, BorrowedMemory, ownMemory, otherMemory, BorrowedLatches, ownLatches, otherLatches, Entry, portWrite, portRead, clockGrant, outsideChange, besideBuffers, borrowedBuffers, ownBuffersAfter, grantBorrowed, enter, run, systemAtPowerOn}
 use Rattle.rules.specs.History.{Event, clockNoted, counterZeroed, Past, withCore, writePassed, clockPassed, clocksPassed, grantPassed, unlessRefused, noteEntry, history, pastAtPowerOn}
-use Rattle.rules.specs.Accounts.{ofKind, clocksNoted, bytesOf, bytesNoted, heldBefore, zeroedNoted, clocksAsked, clocksAccepted, numbersOf, sumOf, AcceptedInTurn, Splits, StoreKeepsRefusal, Demand3, Demand3Flat, ZeroNoted, PokesKeepLength}
-use Rattle.rules.specs.Opened.{opened}
+use Rattle.rules.specs.Accounts.{ofKind, clocksNoted, bytesOf, bytesNoted, heldBefore, zeroedNoted, clocksAsked, clocksAccepted, numbersOf, sumOf, AcceptedInTurn, Splits, StoreKeepsRefusal, Demand3, Demand3Flat, PokesKeepLength}
 use Rattle.rules.specs.declared.Place.{Place}
 use Rattle.rules.specs.declared.Clocks.{Clocks}
 use Rattle.rules.proofs.Choice.{pick-cases, pick-both, pick-true, pick-false, pick-ap}
@@ -352,10 +351,6 @@ flat-keeps-refusal x address byte = ap (λ (k : ℕ). firstHit (test 4 (not (eqb
 
 pub demand3-flat : Demand3Flat
 demand3-flat = (λ m l es. demand3 (List ℕ) (List Poke) flat flatOutside m l es, grant-splits flat flat-keeps-refusal)
-
-pub zero-noted : ZeroNoted
-unfolding opened
-zero-noted = refl
 
 pub pokes-keep-length : PokesKeepLength
 unfolding poked

@@ -1,5 +1,6 @@
 pub mod WorkedExamples
 pub mod Slips
+pub mod Lists
 pub mod Choice
 pub mod Bytes
 pub mod Validity

@@ -6,7 +6,7 @@ use mathlib.Core.Path.{_≡_}
 use mathlib.Core.List.{List, [], _∷_}
 use mathlib.Core.Option.{Option, none, some}
 use lib.Dec.{eqb}
-use lib.ListN.{length}
+use lib.ListN.{length, replicate}
 use Rattle.rules.specs.Choice.{pick}
 use Rattle.rules.specs.Validity.{total}
 use Rattle.rules.specs.Facts.{InRange}
@@ -14,8 +14,9 @@ use Rattle.rules.specs.Clock.{Kind, busClock, heldClock, cpuClock}
 use Rattle.rules.specs.Buffers.{Store, flat}
 use Rattle.rules.specs.World.{System, Move}
 use Rattle.rules.specs.Calls.{grant}
-use Rattle.rules.specs.Entries.{Outside, Poke, poked, flatOutside, Entry, portWrite, portRead, clockGrant, outsideChange, Answered, run, systemAtPowerOn}
+use Rattle.rules.specs.Entries.{Outside, Poke, poked, flatOutside, ownMemory, ownLatches, Entry, portWrite, portRead, clockGrant, outsideChange, Answered, run, systemAtPowerOn}
 use Rattle.rules.specs.History.{Event, clockNoted, counterZeroed, history, pastAtPowerOn}
+use Rattle.rules.specs.declared.Core.{Core}
 
 -- ---- counting the events of a history
 
@@ -129,11 +130,30 @@ abbrev pub Demand3Flat : Type 0
 Demand3Flat =
     ((m l : List ℕ) (es : List (Entry flat (List Poke))) → Accounted flat flatOutside m l es) × Splits flat
 
--- Load and Continue are noted at a counter of 0 too
-abbrev pub ZeroNoted : Type 0
-ZeroNoted =
-    history flat flatOutside (portWrite 0x6B 0xCF ∷ portWrite 0x6B 0xD3 ∷ []) (pastAtPowerOn [] []) .past .events
-    ≡ counterZeroed 0 ∷ counterZeroed 0 ∷ []
+-- bytes written to port 006B before other entries
+unfoldable pub sent : List ℕ → List (Entry flat (List Poke)) → List (Entry flat (List Poke))
+sent [] es = es
+sent (byte ∷ bytes) es = portWrite 0x6B byte ∷ sent bytes es
+
+-- the core after P1's bytes and these entries, from power-on and zeros
+abbrev pub afterP1 : List (Entry flat (List Poke)) → Core
+afterP1 es =
+    run flat flatOutside
+    (sent (0x83 ∷ 0x7D ∷ 0x00 ∷ 0x10 ∷ 0x04 ∷ 0x00 ∷ 0x54 ∷ 0x02 ∷ 0x50 ∷ 0x02 ∷ 0xAD ∷ 0x00 ∷ 0x20 ∷ 0x82 ∷ 0xCF ∷ 0x87 ∷ []) es)
+    (systemAtPowerOn (replicate 65536 0) (replicate 65536 0))
+    .system
+    .world
+    .core
+
+-- some short lists worked out
+pub record ListsShown : Type 0 where
+  -- Load and Continue are noted at a counter of 0 too
+  pub zeros : history flat flatOutside (portWrite 0x6B 0xCF ∷ portWrite 0x6B 0xD3 ∷ []) (pastAtPowerOn [] []) .past .events ≡ counterZeroed 0 ∷ counterZeroed 0 ∷ []
+  -- a refused grant, here for its memory, is neither noted nor added to the sum
+  pub refused : history flat flatOutside (clockGrant 5 ownMemory ownLatches ∷ []) (pastAtPowerOn [] []) .past ≡ pastAtPowerOn [] []
+  -- a grant in two parts, cut within a slot, moves the four bytes that the whole one of 16 clocks moves
+  pub split : afterP1 (clockGrant 3 ownMemory ownLatches ∷ clockGrant 13 ownMemory ownLatches ∷ []) .block .counter ≡ 4
+  pub whole : afterP1 (clockGrant 16 ownMemory ownLatches ∷ []) .block .counter ≡ 4
 
 -- an outside change keeps the length of the flat memory
 abbrev pub PokesKeepLength : Type 0
