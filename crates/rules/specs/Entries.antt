@@ -100,7 +100,7 @@ module _ {M C : Type 0} (σ : Store M) (ω : Outside M C) where
         system = besideBuffers (ownBuffersAfter m l (s .world .buffers) (a .system .world .buffers)) (a .system);
       }
 
-  -- the memory changedOutside from outside; the latches stay
+  -- the memory changed from outside; the latches stay
   abbrev pub changedOutside : C → System M → System M
   changedOutside x s =
       besideBuffers (record { memory = ω .change x (s .world .buffers .memory); latches = s .world .buffers .latches }) s

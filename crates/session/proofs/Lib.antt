@@ -6,4 +6,5 @@ pub mod Room
 pub mod Runs
 pub mod Stepping
 pub mod Pieces
+pub mod Moving
 pub mod Examples

@@ -24,7 +24,7 @@ use Rattle.session.proofs.Saying.{long-there}
 use Rattle.session.proofs.Stepping.{stands-kind}
 
 -- two choices by one test agree where their parts do
-same : {X : Type 0} (t : Bool) (x x′ y y′ : X) → (t ≡ true → x ≡ x′) → (t ≡ false → y ≡ y′) → pick t x y ≡ pick t x′ y′
+pub same : {X : Type 0} (t : Bool) (x x′ y y′ : X) → (t ≡ true → x ≡ x′) → (t ≡ false → y ≡ y′) → pick t x y ≡ pick t x′ y′
 same {X} t x x′ y y′ f g = both (λ (z w : X). z ≡ w) t x y x′ y′ f g
 
 module _ (xs ys : List ℕ) where
@@ -179,23 +179,23 @@ module _ (xs ys : List ℕ) where
 -- ---- a step by the session's phase
 
 module _ (s : Session) (out : List ℕ) (b : Buffers (List ℕ)) where
-  without-room : ltb (length out) 72 ≡ true → (xs : List ℕ) (p : ℕ) (e : Bool) → stepOf s xs p e out b ≡ buffersKept b (withoutLine 9 p s out)
+  pub without-room : ltb (length out) 72 ≡ true → (xs : List ℕ) (p : ℕ) (e : Bool) → stepOf s xs p e out b ≡ buffersKept b (withoutLine 9 p s out)
   unfolding stepOf pick
   without-room r xs p e = simp r
 
-  at-version : ltb (length out) 72 ≡ false → eqb (s .phase) 0 ≡ true → (xs : List ℕ) (p : ℕ) (e : Bool) → stepOf s xs p e out b ≡ buffersKept b (versionStep s xs p e out)
+  pub at-version : ltb (length out) 72 ≡ false → eqb (s .phase) 0 ≡ true → (xs : List ℕ) (p : ℕ) (e : Bool) → stepOf s xs p e out b ≡ buffersKept b (versionStep s xs p e out)
   unfolding stepOf pick
   at-version r f xs p e = simp (r, f)
 
-  at-record : ltb (length out) 72 ≡ false → eqb (s .phase) 0 ≡ false → eqb (s .phase) 1 ≡ true → (xs : List ℕ) (p : ℕ) (e : Bool) → stepOf s xs p e out b ≡ recordStep s xs p e out b
+  pub at-record : ltb (length out) 72 ≡ false → eqb (s .phase) 0 ≡ false → eqb (s .phase) 1 ≡ true → (xs : List ℕ) (p : ℕ) (e : Bool) → stepOf s xs p e out b ≡ recordStep s xs p e out b
   unfolding stepOf pick
   at-record r f g xs p e = simp (r, f, g)
 
-  at-long : ltb (length out) 72 ≡ false → eqb (s .phase) 0 ≡ false → eqb (s .phase) 1 ≡ false → eqb (s .phase) 2 ≡ true → (xs : List ℕ) (p : ℕ) (e : Bool) → stepOf s xs p e out b ≡ buffersKept b (longStep s xs p e out)
+  pub at-long : ltb (length out) 72 ≡ false → eqb (s .phase) 0 ≡ false → eqb (s .phase) 1 ≡ false → eqb (s .phase) 2 ≡ true → (xs : List ℕ) (p : ℕ) (e : Bool) → stepOf s xs p e out b ≡ buffersKept b (longStep s xs p e out)
   unfolding stepOf pick
   at-long r f g h xs p e = simp (r, f, g, h)
 
-  at-over : ltb (length out) 72 ≡ false → eqb (s .phase) 0 ≡ false → eqb (s .phase) 1 ≡ false → eqb (s .phase) 2 ≡ false → (xs : List ℕ) (p : ℕ) (e : Bool) → stepOf s xs p e out b ≡ buffersKept b (withoutLine 2 p s out)
+  pub at-over : ltb (length out) 72 ≡ false → eqb (s .phase) 0 ≡ false → eqb (s .phase) 1 ≡ false → eqb (s .phase) 2 ≡ false → (xs : List ℕ) (p : ℕ) (e : Bool) → stepOf s xs p e out b ≡ buffersKept b (withoutLine 2 p s out)
   unfolding stepOf pick
   at-over r f g h xs p e = simp (r, f, g, h)
 
@@ -267,7 +267,7 @@ module _ (s : Session) (out : List ℕ) where
   unfolding rest pick
   rest-waits q left = refl
 
--- bytes that were counted need not be at hand again
+-- counting the bytes in two goes comes to the same
 long-moves : (s : Session) (out xs ys : List ℕ) (p : ℕ) (e : Bool) → length xs - p < s .left → longStep (inPhase 2 (s .left - (length xs - p)) (s .device)) (xs ++ ys) (p + (length xs - p)) e out ≡ longStep s (xs ++ ys) p e out
 unfolding rest
 long-moves s out xs ys p e h =

@@ -10,6 +10,7 @@ use Rattle.rules.specs.World.{System}
 use Rattle.rules.specs.Calls.{Answer}
 use Rattle.rules.specs.Entries.{Poke, flatOutside, ownMemory, ownLatches, Entry, portWrite, portRead, clockGrant, outsideChange, enter}
 use Rattle.zxndma.specs.Answers.{systemOf}
+use Rattle.session.specs.Records.{writeKind, readKind, grantKind, memoryKind}
 use Rattle.session.specs.declared.parse.Record.{Record}
 use Rattle.session.specs.declared.effect.Effect.{Effect}
 
@@ -23,10 +24,10 @@ pokes (suc count) xs p address =
 -- nothing
 unfoldable pub entryOf : List ℕ → Record → Entry flat (List Poke)
 entryOf xs r =
-    pick (eqb (r .number) 1) (portWrite (r .word) (r .byte))
-    (pick (eqb (r .number) 2) (portRead (r .word))
-    (pick (eqb (r .number) 3) (clockGrant (r .clocks) ownMemory ownLatches)
-    (pick (eqb (r .number) 4) (outsideChange (pokes (r .next - r .start) xs (r .start) (r .word))) (outsideChange []))))
+    pick (eqb (r .number) writeKind) (portWrite (r .word) (r .byte))
+    (pick (eqb (r .number) readKind) (portRead (r .word))
+    (pick (eqb (r .number) grantKind) (clockGrant (r .clocks) ownMemory ownLatches)
+    (pick (eqb (r .number) memoryKind) (outsideChange (pokes (r .next - r .start) xs (r .start) (r .word))) (outsideChange []))))
 
 -- a record's effect
 abbrev pub effect : List ℕ → Record → System (List ℕ) → Answer (List ℕ)

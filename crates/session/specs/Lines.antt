@@ -8,6 +8,7 @@ use lib.ListN.{length}
 use Rattle.rules.specs.Choice.{pick}
 use Rattle.rules.specs.Buffers.{placed}
 use Rattle.rules.specs.declared.Clocks.{Clocks}
+use Rattle.session.specs.Records.{writeKind, readKind, grantKind}
 
 -- the decimal digits of a number that has at most so many, without zeros in front
 unfoldable pub decimalTo : ℕ → ℕ → List ℕ
@@ -36,9 +37,9 @@ readLine number byte =
 -- a record's line by its kind: W, R, G or M
 unfoldable pub recordLine : ℕ → ℕ → ℕ → List ℕ
 recordLine kind number byte =
-    pick (eqb kind 1) (numberLine 87 number)
-    (pick (eqb kind 2) (readLine number byte)
-    (pick (eqb kind 3) (numberLine 71 number) (numberLine 77 number)))
+    pick (eqb kind writeKind) (numberLine 87 number)
+    (pick (eqb kind readKind) (readLine number byte)
+    (pick (eqb kind grantKind) (numberLine 71 number) (numberLine 77 number)))
 
 -- the last line of a session without a fault: B and the clock counts, bus, held, CPU
 abbrev pub countsLine : Clocks → List ℕ

@@ -17,6 +17,19 @@ word xs p = 256 * getD xs p 0 + getD xs (p + 1) 0
 unfoldable pub quad : List ℕ → ℕ → ℕ
 quad xs p = 65536 * word xs p + word xs (p + 2)
 
+-- the kinds of a record
+abbrev pub writeKind : ℕ
+writeKind = 1
+
+abbrev pub readKind : ℕ
+readKind = 2
+
+abbrev pub grantKind : ℕ
+grantKind = 3
+
+abbrev pub memoryKind : ℕ
+memoryKind = 4
+
 -- the numbers of what is no record: more bytes are needed; the input ends with the last record; a record is cut short; a
 -- record is of no kind, or not as long as its kind is
 abbrev pub moreNeeded : ℕ
@@ -51,31 +64,31 @@ behind ended p = pick ended (none inputEnds p) (none moreNeeded p)
 unfoldable pub writeRecord : List ℕ → ℕ → ℕ → Record
 writeRecord xs p n =
     pick (eqb n 4)
-    (record { number = 1; word = word xs (p + 3); byte = getD xs (p + 5) 0; clocks = 0; start = 0; next = p + 6 })
+    (record { number = writeKind; word = word xs (p + 3); byte = getD xs (p + 5) 0; clocks = 0; start = 0; next = p + 6 })
     (none wrongRecord p)
 
 unfoldable pub readRecord : List ℕ → ℕ → ℕ → Record
 readRecord xs p n =
-    pick (eqb n 3) (record { number = 2; word = word xs (p + 3); byte = 0; clocks = 0; start = 0; next = p + 5 }) (none wrongRecord p)
+    pick (eqb n 3) (record { number = readKind; word = word xs (p + 3); byte = 0; clocks = 0; start = 0; next = p + 5 }) (none wrongRecord p)
 
 unfoldable pub grantRecord : List ℕ → ℕ → ℕ → Record
 grantRecord xs p n =
-    pick (eqb n 5) (record { number = 3; word = 0; byte = 0; clocks = quad xs (p + 3); start = 0; next = p + 7 }) (none wrongRecord p)
+    pick (eqb n 5) (record { number = grantKind; word = 0; byte = 0; clocks = quad xs (p + 3); start = 0; next = p + 7 }) (none wrongRecord p)
 
 -- 1 to 255 bytes behind the address
 unfoldable pub memoryRecord : List ℕ → ℕ → ℕ → Record
 memoryRecord xs p n =
     pick (ltb n 4) (none wrongRecord p)
     (pick (ltb longest n) (none wrongRecord p)
-    (record { number = 4; word = word xs (p + 3); byte = 0; clocks = 0; start = p + 5; next = p + 2 + n }))
+    (record { number = memoryKind; word = word xs (p + 3); byte = 0; clocks = 0; start = p + 5; next = p + 2 + n }))
 
 -- a record of which all n bytes are there, by its kind k
 unfoldable pub ofKind : List ℕ → ℕ → ℕ → ℕ → Record
 ofKind xs p n k =
-    pick (eqb k 1) (writeRecord xs p n)
-    (pick (eqb k 2) (readRecord xs p n)
-    (pick (eqb k 3) (grantRecord xs p n)
-    (pick (eqb k 4) (memoryRecord xs p n) (none wrongRecord p))))
+    pick (eqb k writeKind) (writeRecord xs p n)
+    (pick (eqb k readKind) (readRecord xs p n)
+    (pick (eqb k grantKind) (grantRecord xs p n)
+    (pick (eqb k memoryKind) (memoryRecord xs p n) (none wrongRecord p))))
 
 -- what stands at place p, where `ended` says that no byte comes after those at hand. Within one record 21 comes before 22;
 -- one of length 0 has no kind

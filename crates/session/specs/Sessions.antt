@@ -16,7 +16,7 @@ use Rattle.rules.specs.Accounts.{Accounted}
 use Rattle.session.specs.Records.{inputEnds, recordAt}
 use Rattle.session.specs.Lines.{recordLine, countsLine, faultLine}
 use Rattle.session.specs.Effects.{entryOf, effect}
-use Rattle.session.specs.Steps.{isOver, room, noVersion, Outcome, sessionAtStart, systemWith, stepOf}
+use Rattle.session.specs.Steps.{isOver, room, version, noVersion, Outcome, sessionAtStart, systemWith, stepOf}
 use Rattle.session.specs.declared.parse.Record.{Record}
 use Rattle.session.specs.declared.step.Session.{Session}
 
@@ -37,8 +37,8 @@ endedBy line fault s = record { lines = line; fault = fault; system = s }
 abbrev pub lineBefore : List ℕ → Ended → Ended
 lineBefore line e = record { lines = line ++ e .lines; fault = e .fault; system = e .system }
 
--- the records from place p on, of which there are at most so many: each takes bytes, and where there is one for each byte,
--- none is left behind them
+-- the records from place p on, of which there are at most so many; each takes bytes, so that where as many are allowed as
+-- there are bytes, none is left
 unfoldable pub recordsFrom : ℕ → List ℕ → ℕ → System (List ℕ) → Ended
 recordsFrom zero xs p s = endedBy (countsLine (s .clocks)) 0 s
 recordsFrom (suc most) xs p s =
@@ -50,7 +50,7 @@ recordsFrom (suc most) xs p s =
 
 -- a session: the version byte, 1, and the records behind it
 unfoldable pub session : List ℕ → Ended
-session xs = pick (eqb (getD xs 0 0) 1) (recordsFrom (length xs) xs 1 start) (endedBy (faultLine noVersion) noVersion start)
+session xs = pick (eqb (getD xs 0 0) version) (recordsFrom (length xs) xs 1 start) (endedBy (faultLine noVersion) noVersion start)
 
 -- a session leaves no record behind: to allow for more records changes nothing
 abbrev pub AllRead : List ℕ → Type 0
@@ -66,7 +66,7 @@ decodedFrom (suc most) xs p =
     pick (eqb (r .number) inputEnds) [] (pick (leb noVersion (r .number)) [] (r ∷ decodedFrom most xs (r .next)))
 
 unfoldable pub decoded : List ℕ → List Record
-decoded xs = pick (eqb (getD xs 0 0) 1) (decodedFrom (length xs) xs 1) []
+decoded xs = pick (eqb (getD xs 0 0) version) (decodedFrom (length xs) xs 1) []
 
 -- their entries
 unfoldable pub entriesOf : List ℕ → List Record → List (Entry flat (List Poke))

@@ -1,5 +1,5 @@
--- A session read a step at a time from the bytes at hand: the version byte, one record, or so much of a record that is too
--- long for any kind. A step says how far it came and whether more bytes are needed, and puts at most one line at the front
+-- A session read a step at a time from the bytes at hand: the version byte, one record, or as much as is at hand of a record
+-- that is too long for any kind. A step says how far it came and whether more bytes are needed, and puts at most one line at the front
 -- of a borrowed slice.
 -- Assumes nothing.
 use Prim.Native.Nat.{ℕ, _+_, _-_}
@@ -69,6 +69,10 @@ noRoom = 9
 abbrev pub room : ℕ
 room = 72
 
+-- the version of a session
+abbrev pub version : ℕ
+version = 1
+
 -- the fault of a session whose version is missing or not 1; no fault has a lower number
 abbrev pub noVersion : ℕ
 noVersion = 20
@@ -105,7 +109,7 @@ buffersKept b said = record { said = said; buffers = b }
 unfoldable pub versionStep : Session → List ℕ → ℕ → Bool → List ℕ → Said
 versionStep s xs p ended out =
     pick (leb (length xs) p) (pick ended (lastFault noVersion p (s .device) out) (withoutLine needsBytes p s out))
-    (pick (eqb (getD xs p 0) 1) (withoutLine goesOn (p + 1) (inPhase atRecord 0 (s .device)) out) (lastFault noVersion (p + 1) (s .device) out))
+    (pick (eqb (getD xs p 0) version) (withoutLine goesOn (p + 1) (inPhase atRecord 0 (s .device)) out) (lastFault noVersion (p + 1) (s .device) out))
 
 -- within a record that is too long: its bytes are counted, and nothing else
 unfoldable pub longStep : Session → List ℕ → ℕ → Bool → List ℕ → Said
@@ -115,10 +119,11 @@ longStep s xs p ended out =
     (lastFault cutShort (p + (length xs - p)) (s .device) out)
     (withoutLine needsBytes (p + (length xs - p)) (inPhase inLong (s .left - (length xs - p)) (s .device)) out))
 
--- a record that was carried out
+-- the device of a system
 abbrev pub deviceOf : System (List ℕ) → Device
 deviceOf s = record { core = s .world .core; clocks = s .clocks }
 
+-- a record that was carried out
 abbrev pub carried : Record → Answer (List ℕ) → List ℕ → Outcome
 carried r a out =
     record {
@@ -127,6 +132,7 @@ carried r a out =
       buffers = a .system .world .buffers;
     }
 
+-- a device with its buffers
 abbrev pub systemWith : Device → Buffers (List ℕ) → System (List ℕ)
 systemWith d b = systemOf d (b .memory) (b .latches)
 
@@ -138,6 +144,7 @@ byRecord r s xs out b =
     (pick (leb noVersion (r .number)) (buffersKept b (lastFault (r .number) (r .next) (s .device) out))
     (carried r (effect xs r (systemWith (s .device) b)) out)))
 
+-- a record; of one that is too long for any kind, its length
 unfoldable pub recordStep : Session → List ℕ → ℕ → Bool → List ℕ → Buffers (List ℕ) → Outcome
 recordStep s xs p ended out b =
     pick (eqb (longLength xs p) 0)

@@ -1,5 +1,5 @@
-// The lines that a session writes. Each function puts its bytes at the front of a borrowed slice, or from a place on, and
-// answers the place behind them.
+// The lines that a session writes. Each `put_` function puts its bytes at the front of a borrowed slice, or from a place
+// on, and answers the place behind them.
 ghost use mathlib.Core.Path.{_≡_};
 ghost use mathlib.Core.List.{[], _∷_};
 ghost use Prim.Native.Nat.{_+_, _≤_, _<_};

@@ -252,7 +252,8 @@ impl Session {
     }
 
     // One step from a place of the bytes at hand, where `ended` says that no byte comes after them. At most one line is
-    // put at the front of `out`, which must have room for 72 bytes; the rest of it stays.
+    // put at the front of `out`, and the rest of it stays; with fewer than 72 bytes there the step answers NO_ROOM and
+    // does nothing.
     pub fn step(
         self,
         input: &[u8],

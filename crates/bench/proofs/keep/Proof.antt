@@ -1,3 +1,5 @@
+-- What is kept lies before what it is taken from.
+-- Assumes nothing.
 use Rattle.rules.specs.Choice.{pick}
 use borrow.Author.Needs.{needs}
 use Prim.Native.Nat.{_≤_, _-_}

@@ -1,3 +1,5 @@
+-- The bytes at hand stay within the buffer; the turns count down.
+-- Assumes nothing.
 use Rattle.rules.specs.Choice.{pick}
 use native.Mathlib.Omega.{arith}
 use borrow.Author.Needs.{needs}

@@ -1,3 +1,5 @@
+-- The bytes at hand stay within the buffer.
+-- Assumes nothing.
 use borrow.Author.Needs.{needs}
 use Rattle.bench.proofs.turn.Statement.{statement}
 use Rattle.bench.proofs.turn.Tie as tie

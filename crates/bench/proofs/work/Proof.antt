@@ -1,3 +1,5 @@
+-- The lines stay within the buffer, since a step's line fits what is left of it.
+-- Assumes nothing.
 use native.Mathlib.Omega.{arith}
 use Rattle.rules.specs.Choice.{pick}
 use borrow.Author.Needs.{needs}

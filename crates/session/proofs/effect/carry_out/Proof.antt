@@ -1,3 +1,5 @@
+-- Each kind of record is an entry, and the entry's effect is the call's own answer.
+-- Assumes nothing.
 use Rattle.session.proofs.Carrying.{carried-write, carried-read, carried-grant, carried-memory, carried-none}
 use borrow.Author.Needs.{needs}
 use Rattle.session.proofs.effect.carry_out.Statement.{statement}

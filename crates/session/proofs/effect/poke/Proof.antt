@@ -1,3 +1,6 @@
+-- The bytes of a memory record go into memory one by one: what is left to be put, put into the memory as it is, makes of it
+-- what all of them make of the memory as it was.
+-- Assumes nothing.
 use Prim.Native.Nat.{_-_}
 use native.Mathlib.Omega.{arith}
 use borrow.Author.Needs.{needs}

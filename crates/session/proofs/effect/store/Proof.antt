@@ -1,3 +1,5 @@
+-- A byte behind the end of the memory is put nowhere, as the list's own store has it.
+-- Assumes nothing.
 use native.Mathlib.Omega.{arith}
 use mathlib.Core.Path.{sym}
 use lib.Seq.{set-out}

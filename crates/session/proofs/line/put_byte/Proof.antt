@@ -1,3 +1,5 @@
+-- One store is one byte put.
+-- Assumes nothing.
 use Rattle.session.proofs.Putting.{put-one}
 use borrow.Author.Needs.{needs}
 use Rattle.session.proofs.line.put_byte.Statement.{statement}

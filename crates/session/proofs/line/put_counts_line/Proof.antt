@@ -1,3 +1,5 @@
+-- Runs of bytes put one behind the other are their concatenation put.
+-- Assumes nothing.
 use Rattle.session.proofs.Putting.{put-more}
 use borrow.Author.Needs.{needs}
 use Rattle.session.proofs.line.put_counts_line.Statement.{statement}

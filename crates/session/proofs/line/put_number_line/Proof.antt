@@ -1,3 +1,5 @@
+-- Runs of bytes put one behind the other are their concatenation put.
+-- Assumes nothing.
 use Rattle.session.proofs.Putting.{put-more, put-as}
 use Rattle.session.specs.Lines.{decimalTo}
 use mathlib.Core.Path.{ap}

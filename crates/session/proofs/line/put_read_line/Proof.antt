@@ -1,3 +1,5 @@
+-- By the number: the seven bytes of an accepted read, or the line of a refusal. Runs put one behind the other are put.
+-- Assumes nothing.
 use Rattle.session.proofs.Putting.{put-more, put-as}
 use Rattle.session.specs.Lines.{readLine}
 use Rattle.rules.specs.Choice.{pick}

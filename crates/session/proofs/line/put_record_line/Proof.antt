@@ -1,3 +1,5 @@
+-- By the kind, the line of that kind.
+-- Assumes nothing.
 use Rattle.session.proofs.Putting.{put-as}
 use Rattle.session.specs.Lines.{recordLine}
 use Rattle.rules.specs.Choice.{pick}

@@ -1,3 +1,5 @@
+-- Behind the last byte a list gives its default, 0.
+-- Assumes nothing.
 use mathlib.Core.Path.{sym}
 use lib.ListN.{List·getD-eq-default}
 use borrow.Author.Needs.{needs}

@@ -1,3 +1,5 @@
+-- A length that is too long is there in whole, so that the place behind it can be counted.
+-- Assumes nothing.
 use Rattle.rules.specs.Choice.{pick}
 use Rattle.session.specs.Steps.{recordStep}
 use borrow.Author.Tests.{eq-eqb, ne-eqb}

@@ -1,3 +1,5 @@
+-- What was put is the line, and its length the place behind it.
+-- Assumes nothing.
 use Rattle.session.proofs.Saying.{spoken-put}
 use borrow.Author.Needs.{needs}
 use Rattle.session.proofs.step.say_counts.Statement.{statement}

@@ -1,3 +1,5 @@
+-- By the room for a line and the phase; every line fits into the room.
+-- Assumes nothing.
 use Rattle.clocking.specs.Answers.{borrowed}
 use Rattle.session.proofs.Room.{with-room}
 use Rattle.rules.specs.Choice.{pick}
