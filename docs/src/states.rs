@@ -1,7 +1,7 @@
 //! Compares the linked library with the second program: on devices of any
 //! content, with any port, byte, clocks and buffers, and on sessions. Every
 //! answer is compared whole: number, byte, each field of the device, and
-//! after a grant both buffers; a write and a read are lent none. The sessions
+//! after a grant both buffers, in a session after every record. The sessions
 //! of a seed are those that `compare.rs` makes of it.
 
 #![deny(unsafe_code)]
@@ -250,6 +250,13 @@ impl Bench {
     fn store(&mut self, address: u16, bytes: &[u8]) {
         self.library.store(address, bytes);
         self.model.store(address, bytes);
+    }
+
+    /// Memory and latches of a session agree, whatever its last record was.
+    fn same_buffers(&self) -> Result<(), String> {
+        let same = self.library.memory[..SIZE] == self.model.memory[..SIZE]
+            && self.library.latches[..SIZE] == self.model.latches[..SIZE];
+        same.then_some(()).ok_or_else(|| "memory or latches differ after a record".to_string())
     }
 
     /// Has both sides answer. Gives the number and the device afterwards, or
@@ -625,11 +632,13 @@ fn run_session(bench: &mut Bench, session: &[u8]) -> Result<(), String> {
             }
             [4, high, low, ref bytes @ ..] if (1..=255).contains(&bytes.len()) => {
                 bench.store(u16::from_be_bytes([high, low]), bytes);
+                bench.same_buffers()?;
                 continue;
             }
             _ => break,
         };
         device = bench.call(device, call)?.1;
+        bench.same_buffers()?;
     }
     Ok(())
 }
