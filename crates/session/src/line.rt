@@ -115,7 +115,7 @@ fn put_read_line(number: u8, byte: u8, line: &mut [u8]) -> usize
 }
 
 // The line of a record of this kind, answered with this number and, for a port read, this byte.
-pub fn put_record_line(kind: u8, number: u8, byte: u8, line: &mut [u8]) -> usize
+pub(crate) fn put_record_line(kind: u8, number: u8, byte: u8, line: &mut [u8]) -> usize
     requires { ⌜ 72 ≤ length (now line) ⌝ }
     ensures { λ r. ⌜ Put (now (line .entry)) 0 (recordLine kind number byte) (now (line .exit)) r ⌝ }
 {
@@ -132,7 +132,7 @@ pub fn put_record_line(kind: u8, number: u8, byte: u8, line: &mut [u8]) -> usize
 }
 
 // The last line of a session without a fault.
-pub fn put_counts_line(clocks: Clocks, line: &mut [u8]) -> usize
+pub(crate) fn put_counts_line(clocks: Clocks, line: &mut [u8]) -> usize
     requires { ⌜ 72 ≤ length (now line) ⌝ }
     ensures { λ r. ⌜ Put (now (line .entry)) 0 (countsLine clocks) (now (line .exit)) r ⌝ }
 {
@@ -147,7 +147,7 @@ pub fn put_counts_line(clocks: Clocks, line: &mut [u8]) -> usize
 }
 
 // The last line of a session with a fault.
-pub fn put_fault_line(number: u8, line: &mut [u8]) -> usize
+pub(crate) fn put_fault_line(number: u8, line: &mut [u8]) -> usize
     requires { ⌜ 72 ≤ length (now line) ⌝ }
     ensures { λ r. ⌜ Put (now (line .entry)) 0 (faultLine number) (now (line .exit)) r ⌝ }
 {
