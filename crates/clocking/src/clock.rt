@@ -1,7 +1,6 @@
 // One clock of the core, and the span of clocks that it answers.
 ghost use mathlib.Core.Path.{_≡_};
 ghost use Prim.Native.Nat.{_<_};
-ghost use mathlib.Core.Bool.{true};
 ghost use mathlib.Core.List.{[], _∷_};
 ghost use lib.Dec.{ltb};
 ghost use Rattle.rules.specs.Choice.{every};
@@ -9,11 +8,10 @@ ghost use Rattle.rules.specs.Parts.{withSlot};
 ghost use Rattle.rules.specs.Ports.{stepped, advanced};
 ghost use Rattle.rules.specs.Blocks.{blockCount};
 ghost use Rattle.rules.specs.Slots.{noSlot};
-ghost use Rattle.rules.specs.Validity.{validCore};
 ghost use Rattle.rules.specs.Clock.{slotLength, newSlot, moved, stopped, restarted, movedAt, kindAt, slotEnd, clockEnd, slotClock, firstClock, clockOf};
 ghost use Rattle.rules.specs.Buffers.{source, destination, placeOf};
 ghost use Rattle.rules.specs.Spans.{kindCode, IsSpan};
-ghost use Rattle.clocking.specs.Answers.{tick};
+ghost use Rattle.clocking.specs.Answers.{tick, roomFor};
 use registers::block;
 use registers::command;
 use registers::part;
@@ -294,14 +292,27 @@ fn destination_of(c: Core) -> Place
     place_of(a)
 }
 
-// The next span of a valid core's clocks within a budget: one clock, or none for a budget of 0.
+// The clocks that a span may take of a budget.
+fn room_for(c: Core, budget: u32) -> u32
+    ensures { λ r. ⌜ r ≡ roomFor c budget ⌝ }
+{
+    if c.block.counter < 4294967295 {
+        if c.slot.elapsed < 65535 {
+            return budget;
+        }
+        return 0;
+    }
+    0
+}
+
+// The next span of a core's clocks within a budget: one clock, or none for a budget of 0. Of a core whose counter or slot
+// is at the end of its type, as no valid core's is, none.
 pub fn next_span(c: Core, budget: u32) -> Span
-    requires { ⌜ validCore c ≡ true ⌝ }
-    ensures { λ r. ⌜ IsSpan c budget (r .clocks) (r .kind) (r .moves) (r .from) (r .to) (r .next) ⌝ }
+    ensures { λ r. ⌜ IsSpan c (roomFor c budget) (r .clocks) (r .kind) (r .moves) (r .from) (r .to) (r .next) ⌝ }
 {
     let from = source_of(c);
     let to = destination_of(c);
-    if budget == 0 {
+    if room_for(c, budget) == 0 {
         return Span {
             kind: CPU,
             clocks: 0,

@@ -1,9 +1,8 @@
 // Counting clocks.
 ghost use mathlib.Core.Path.{_≡_};
-ghost use Prim.Native.Nat.{_+_, _≤_};
-ghost use Rattle.rules.specs.Validity.{total, most64};
-ghost use Rattle.rules.specs.Spans.{countedBy};
+ghost use Rattle.clocking.specs.Answers.{added, countedWithin};
 use crate::clock;
+use registers::valid;
 use rules::Clocks;
 
 fn wide(x: u32) -> u64
@@ -12,23 +11,35 @@ fn wide(x: u32) -> u64
     x as u64
 }
 
-// `n` clocks of one kind added to its count, where the sum has room for them.
-pub fn add(kind: u8, n: u32, k: Clocks) -> Clocks
-    requires { ⌜ total k + n ≤ most64 ⌝ }
-    ensures { λ r. ⌜ r ≡ countedBy kind n k ⌝ }
+// A count with `n` more; where they would not fit it stays.
+fn more(count: u64, n: u64) -> u64
+    ensures { λ r. ⌜ r ≡ added count n ⌝ }
 {
-    let more = wide(n);
+    if count <= valid::MOST - n {
+        return count + n;
+    }
+    count
+}
+
+// `n` clocks of one kind added to its count, which stays where they would not fit.
+pub fn add(kind: u8, n: u32, k: Clocks) -> Clocks
+    ensures { λ r. ⌜ r ≡ countedWithin kind n k ⌝ }
+{
+    let clocks = wide(n);
     if kind == clock::BUS {
+        let bus = more(k.bus, clocks);
         let mut next = k;
-        next.bus = k.bus + more;
+        next.bus = bus;
         return next;
     }
     if kind == clock::HELD {
+        let held = more(k.held, clocks);
         let mut next = k;
-        next.held = k.held + more;
+        next.held = held;
         return next;
     }
+    let cpu = more(k.cpu, clocks);
     let mut next = k;
-    next.cpu = k.cpu + more;
+    next.cpu = cpu;
     next
 }

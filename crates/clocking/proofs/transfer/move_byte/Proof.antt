@@ -1,40 +1,52 @@
-use Rattle.rules.specs.Choice.{pick}
-use Rattle.rules.specs.Buffers.{put}
+use Rattle.clocking.proofs.Moving.{moved-latch, moved-byte}
 use borrow.Author.Needs.{needs}
 use Rattle.clocking.proofs.transfer.move_byte.Statement.{statement}
 use Rattle.clocking.proofs.transfer.move_byte.Tie as tie
+use Rattle.clocking.proofs.transfer.move_byte.Reads as reads
+use Rattle.clocking.proofs.transfer.move_byte.Lts as lts
+use Rattle.clocking.proofs.transfer.index.Reads as index-reads
+use Rattle.clocking.proofs.transfer.load.Reads as load-reads
+use Rattle.clocking.proofs.transfer.store.Reads as store-reads
 
+-- src/transfer.rt:50:9
 load-requires : tie.Need-load-requires
 load-requires c κs = search needs
 
+-- src/transfer.rt:51:9
 index-requires : tie.Need-index-requires
 index-requires c κs = search needs
 
-slice-write-latches : tie.Need-slice-write-latches
-slice-write-latches c = search needs
+-- src/transfer.rt:53:9
+store-requires : tie.Need-store-requires
+store-requires c κs = search needs
 
+-- src/transfer.rt:54:9
 same-length : tie.Need-same-length
 same-length c = search needs
 
+-- src/transfer.rt:54:9
 same-length-2 : tie.Need-same-length-2
 same-length-2 c = search needs
 
+-- src/transfer.rt:54:9
 returns : tie.Need-returns
-unfolding put pick
-returns c = simp (c .if1 .taken, c .before .before .load .ensures, c .before .index .ensures)
+returns c = moved-latch (c .before .before .before .before .before .before .before .before .before .before .before .args .memory .now) (c .before .before .before .before .before .before .before .before .before .before .before .args .latches .now) (c .before .before .before .before .before .before .before .before .before .before .before .args .from) (c .before .before .before .before .before .before .before .before .before .before .before .args .to) (c .before .before .before .before .before .index .ensures) (c .before .before .before .before .before .before .load .ensures) (c .before .before .before .before .if1 .taken) (c .before .before .store .ensures)
 
-slice-write-memory : tie.Need-slice-write-memory
-slice-write-memory c = search needs
+-- src/transfer.rt:56:5
+store-requires-2 : tie.Need-store-requires-2
+store-requires-2 c κs = search needs
 
+-- src/transfer.rt:47:1
 same-length-3 : tie.Need-same-length-3
 same-length-3 c = search needs
 
+-- src/transfer.rt:47:1
 same-length-4 : tie.Need-same-length-4
 same-length-4 c = search needs
 
+-- src/transfer.rt:47:1
 returns-2 : tie.Need-returns-2
-unfolding put pick
-returns-2 c = simp (c .if1 .left, c .before .before .load .ensures, c .before .index .ensures)
+returns-2 c = moved-byte (c .before .before .before .before .before .before .before .before .before .before .before .args .memory .now) (c .before .before .before .before .before .before .before .before .before .before .before .args .latches .now) (c .before .before .before .before .before .before .before .before .before .before .before .args .from) (c .before .before .before .before .before .before .before .before .before .before .before .args .to) (c .before .before .before .before .before .index .ensures) (c .before .before .before .before .before .before .load .ensures) (c .before .before .before .before .if1 .left) (c .before .before .store2 .ensures)
 
 pub move-byte-spec : {M : Type 1} → statement M
 move-byte-spec =
@@ -42,11 +54,11 @@ move-byte-spec =
     (tie.spec
     load-requires
     index-requires
-    slice-write-latches
+    store-requires
     same-length
     same-length-2
     returns
-    slice-write-memory
+    store-requires-2
     same-length-3
     same-length-4
     returns-2)

@@ -1,3 +1,4 @@
+use Rattle.clocking.proofs.Room.{valid-span, counted-all}
 use mathlib.Core.Path.{sym, _∙_}
 use Rattle.zxndma.proofs.Going.{made, Going, going-start, going-valid, going-more, going-end, borrowed-lengths}
 use native.Mathlib.Omega.{arith}
@@ -18,22 +19,22 @@ loop-holds c = going-start _ _ _ _ _
     (c .before .before .before .before .pre)
 
 next-span-requires : tie.Need-next-span-requires Inv-loop μ-loop
-next-span-requires c κs = going-valid (c .before .loop .inv)
+next-span-requires c κs = search needs
 
 move-if-requires : tie.Need-move-if-requires Inv-loop μ-loop
-move-if-requires c κs = (c .before .before .before .before .before .before .loop .inv .memory, c .before .before .before .before .before .before .loop .inv .latches)
+move-if-requires c κs = search needs
 
 add-requires : tie.Need-add-requires Inv-loop μ-loop
-add-requires c κs = omega (arith, c .before .before .before .before .before .before .before .before .before .before .before .loop .inv .room, c .before .before .before .before .before .before .before .before .before .next-span .ensures .within)
+add-requires c κs = search needs
 
 sub-left : tie.Need-sub-left Inv-loop μ-loop
-sub-left c = omega (arith, c .before .before .before .before .before .before .before .before .before .before .before .before .next-span .ensures .within)
+sub-left c = omega (arith, (valid-span (going-valid (c .before .before .before .before .before .before .before .before .before .before .before .before .before .before .loop .inv)) (c .before .before .before .before .before .before .before .before .before .before .before .before .next-span .ensures)) .within)
 
 loop-less : tie.Need-loop-less Inv-loop μ-loop
-loop-less c = omega (arith, c .before .before .before .before .before .before .before .before .before .before .before .before .next-span .ensures .some (c .before .before .before .before .before .before .before .before .before .before .before .before .before .loop-test .taken), c .before .before .before .before .before .before .before .before .before .before .before .before .next-span .ensures .within)
+loop-less c = omega (arith, (valid-span (going-valid (c .before .before .before .before .before .before .before .before .before .before .before .before .before .before .loop .inv)) (c .before .before .before .before .before .before .before .before .before .before .before .before .next-span .ensures)) .some (c .before .before .before .before .before .before .before .before .before .before .before .before .before .loop-test .taken), (valid-span (going-valid (c .before .before .before .before .before .before .before .before .before .before .before .before .before .before .loop .inv)) (c .before .before .before .before .before .before .before .before .before .before .before .before .next-span .ensures)) .within)
 
 loop-again : tie.Need-loop-again Inv-loop μ-loop
-loop-again c = going-more (c .before .before .before .before .before .before .before .before .before .before .before .before .before .before .loop .inv) (c .before .before .before .before .before .before .before .before .before .before .before .before .next-span .ensures) (c .before .before .before .before .before .before .before .move-if .ensures) (c .before .before .add .ensures)
+loop-again c = going-more (c .before .before .before .before .before .before .before .before .before .before .before .before .before .before .loop .inv) (valid-span (going-valid (c .before .before .before .before .before .before .before .before .before .before .before .before .before .before .loop .inv)) (c .before .before .before .before .before .before .before .before .before .before .before .before .next-span .ensures)) (c .before .before .before .before .before .before .before .move-if .ensures) (c .before .before .add .ensures ∙ counted-all _ _ _ (omega (arith, c .before .before .before .before .before .before .before .before .before .before .before .before .before .before .loop .inv .room, (valid-span (going-valid (c .before .before .before .before .before .before .before .before .before .before .before .before .before .before .loop .inv)) (c .before .before .before .before .before .before .before .before .before .before .before .before .next-span .ensures)) .within)))
 
 same-length : tie.Need-same-length Inv-loop μ-loop
 same-length c = c .before .loop .inv .memory ∙ sym (borrowed-lengths _ _ _ _ _ (c .before .before .before .before .before .before .pre) .0)
