@@ -11,7 +11,7 @@ use Rattle.rules.specs.Choice.{Test, test, firstHit}
 use Rattle.rules.specs.Slots.{busHeld}
 use Rattle.rules.specs.PowerOn.{powerOn, noClocks}
 use Rattle.rules.specs.Validity.{valid, total, most64}
-use Rattle.rules.specs.Facts.{InRange}
+use Rattle.rules.specs.Facts.{ValidParts, InRange}
 use Rattle.rules.specs.Buffers.{Store, flat, Buffers}
 use Rattle.rules.specs.World.{System, clocked}
 use Rattle.rules.specs.Refusals.{wrongPort, accessRefusal, grantRefusal}
@@ -179,6 +179,10 @@ pub flat-memory : (m : List ℕ) → flat .refusal m ≡ 0 → length m ≡ 6553
 flat-memory m e = let h = missed _ _ (tells 3 _) e in eqb-true _ _ (not-false _ (h .0))
 
 -- the sum of a valid device's clock counts fits
+pub valid-parts : (c : Core) (sum : ℕ) → valid c sum ≡ true → ValidParts c
+unfolding valid
+valid-parts c sum e = core-parts c (all-true _ e .0)
+
 pub valid-fits : (c : Core) (sum : ℕ) → valid c sum ≡ true → sum ≤ most64
 unfolding valid
 valid-fits c sum e = leb-true _ _ (all-true _ e .1 .0)

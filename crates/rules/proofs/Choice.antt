@@ -67,6 +67,22 @@ unfolding every pick
 every-one-more true ts d e = e
 every-one-more false ts d e = clash d
 
+-- a test that fails settles it, and one that holds leaves it to the rest
+pub every-stop : (t : Bool) (ts : List Bool) → t ≡ false → every (t ∷ ts) ≡ false
+unfolding every pick
+every-stop true ts e = clash (sym e)
+every-stop false ts e = refl
+
+pub every-stop-later : (t : Bool) (ts : List Bool) → every ts ≡ false → every (t ∷ ts) ≡ false
+unfolding every pick
+every-stop-later true ts e = e
+every-stop-later false ts e = refl
+
+pub every-go : (t : Bool) (ts : List Bool) → t ≡ true → every (t ∷ ts) ≡ every ts
+unfolding every pick
+every-go true ts e = refl
+every-go false ts e = clash e
+
 -- every test of a list, as strict code computes it
 pub every-last : (t : Bool) → every (t ∷ []) ≡ t
 unfolding every pick

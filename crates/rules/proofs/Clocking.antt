@@ -104,7 +104,7 @@ slot-kept n c s t =
 -- ---- one clock
 
 -- the slot that the registers start
-new-length : (c : Core) → c .control .prescaler < 256 → SlotLength (newSlot c)
+pub new-length : (c : Core) → c .control .prescaler < 256 → SlotLength (newSlot c)
 unfolding slotLength
 new-length c h =
     pick-cases

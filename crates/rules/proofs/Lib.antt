@@ -14,6 +14,8 @@ pub mod Reading
 pub mod Clocking
 pub mod Counting
 pub mod Spans
+pub mod Stretches
+pub mod WholeSlots
 pub mod Calls
 pub mod Counter
 pub mod Accounts

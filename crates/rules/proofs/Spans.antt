@@ -5,17 +5,17 @@ use Prim.Native.Nat.{ℕ, zero, suc, _+_, _≤_, _<_}
 use native.Mathlib.Omega.{arith}
 use native.Mathlib.Nat.{add-zero, add-assoc, le-refl}
 use native.Mathlib.Numerals.{add-one}
-use mathlib.Core.Path.{_≡_, refl, sym, _∙_, ap}
+use mathlib.Core.Path.{_≡_, refl, sym, _∙_, ap, subst}
 use mathlib.Core.Bool.{Bool, false}
 use Rattle.rules.specs.Choice.{pick}
 use Rattle.rules.specs.Clock.{Kind, busClock, heldClock, cpuClock, counted, clockOf}
 use Rattle.rules.specs.Buffers.{Store, Buffers, source, destination}
 use Rattle.rules.specs.World.{System, buffersAfter, clocked}
-use Rattle.rules.specs.Spans.{kindCode, ticks, countedBy, buffersBetween, IsSpan}
+use Rattle.rules.specs.Spans.{kindCode, ticks, countedBy, buffersBetween, IsSpan, IsLongest, IsLongestSpan, SpansSettled}
 use Rattle.rules.specs.declared.Place.{Place}
 use Rattle.rules.specs.declared.Clocks.{Clocks}
 use Rattle.rules.specs.declared.Core.{Core}
-use Rattle.rules.proofs.Choice.{pick-both, pick-false}
+use Rattle.rules.proofs.Choice.{clash, pick-both, pick-false, any-cases, any-none}
 use Rattle.rules.proofs.Counting.{clocked-zero, clocked-suc}
 
 -- one clock counted, after n of its kind
@@ -25,7 +25,7 @@ counted-more busClock kind n x e = rw (← e) (simp (add-assoc, add-one))
 counted-more heldClock kind n x e = rw (← e) (simp (add-assoc, add-one))
 counted-more cpuClock kind n x e = rw (← e) (simp (add-assoc, add-one))
 
-counted-none : (kind : ℕ) (x : Clocks) → countedBy kind 0 x ≡ x
+pub counted-none : (kind : ℕ) (x : Clocks) → countedBy kind 0 x ≡ x
 unfolding countedBy
 counted-none kind x =
     pick-both (λ (y : Clocks). y ≡ x) _ _ _ (simp add-zero)
@@ -35,7 +35,7 @@ pub ticks-zero : (c : Core) → ticks 0 c ≡ c
 unfolding ticks
 ticks-zero c = refl
 
-ticks-suc : (n : ℕ) (c : Core) → ticks (suc n) c ≡ clockOf (ticks n c) .next
+pub ticks-suc : (n : ℕ) (c : Core) → ticks (suc n) c ≡ clockOf (ticks n c) .next
 unfolding ticks
 ticks-suc n c = refl
 
@@ -126,3 +126,42 @@ span-one c budget n =
   where
     first : (i : ℕ) → i ≡ 0 → ticks i c ≡ c
     first i e = ap (λ (m : ℕ). ticks m c) e ∙ ticks-zero c
+
+-- ---- a span's promise settles its answer
+
+-- a longest span is not shorter than a span within the same budget that stays within the slot
+longest-least : {c : Core} {budget n m kind kind′ : ℕ} {moves moves′ : Bool} {from from′ to to′ : Place} {next next′ : Core} → IsSpan c budget n kind moves from to next → IsLongest c budget n moves → IsSpan c budget m kind′ moves′ from′ to′ next′ → IsLongest c budget m moves′ → n < m → ⊥
+longest-least {n = zero} p l q g h = omega (arith, p .some (omega (arith, q .within)))
+longest-least {n = suc i} p l q g h =
+    any-cases _ _ (l .reached i (omega arith) (omega (arith, q .within)))
+    (λ e. clash (sym (q .quiet i (omega arith)) ∙ p .last i (omega arith) ∙ e))
+    (λ x. any-cases _ _ x (λ e. clash (sym (g .inside i (omega arith)) ∙ e)) any-none)
+
+settle :
+    {c : Core} {budget n kind kind′ : ℕ} {moves moves′ : Bool} {from from′ to to′ : Place} {next next′ : Core}
+    → IsSpan c budget n kind moves from to next → IsSpan c budget n kind′ moves′ from′ to′ next′
+    → (next ≡ next′) × (moves ≡ moves′) × (0 < n → (kind ≡ kind′) × (from ≡ from′) × (to ≡ to′))
+settle {n = zero} p q = (sym (p .core) ∙ q .core, p .none refl ∙ sym (q .none refl), λ h. absurd (omega arith))
+settle {n = suc i} p q = (
+  sym (p .core) ∙ q .core,
+  sym (p .last i (omega arith)) ∙ q .last i (omega arith),
+  λ h. (
+    sym (p .kinds i (omega arith)) ∙ q .kinds i (omega arith),
+    sym (p .source i (omega arith)) ∙ q .source i (omega arith),
+    sym (p .destination i (omega arith)) ∙ q .destination i (omega arith),
+  ),
+)
+
+same : {n m : ℕ} → (n < m → ⊥) → (m < n → ⊥) → n ≡ m
+same f g = omega (arith, f, g)
+
+settled :
+    {c : Core} {budget n m kind kind′ : ℕ} {moves moves′ : Bool} {from from′ to to′ : Place} {next next′ : Core}
+    → IsLongestSpan c budget n kind moves from to next → IsLongestSpan c budget m kind′ moves′ from′ to′ next′
+    → (n ≡ m) × (next ≡ next′) × (moves ≡ moves′) × (0 < n → (kind ≡ kind′) × (from ≡ from′) × (to ≡ to′))
+settled {c} {budget} {kind′ = kind′} {moves′ = moves′} {from′ = from′} {to′ = to′} {next′ = next′} p q =
+    let e = same (longest-least (p .0) (p .1) (q .0) (q .1)) (longest-least (q .0) (q .1) (p .0) (p .1)) in
+    let s = settle (p .0) (subst (λ (k : ℕ). IsSpan c budget k kind′ moves′ from′ to′ next′) (sym e) (q .0)) in (e, s .0, s .1, s .2)
+
+pub spans-settled : SpansSettled
+spans-settled = record { settled = settled }

@@ -16,6 +16,8 @@ pub mod Clock
 pub mod Buffers
 pub mod World
 pub mod Spans
+pub mod Stretches
+pub mod WholeSlots
 pub mod Refusals
 pub mod Calls
 pub mod Keeping

@@ -3,9 +3,10 @@
 -- Assumes nothing.
 use Prim.Native.Nat.{ℕ, zero, suc, _+_, _≤_, _<_}
 use mathlib.Core.Path.{_≡_}
-use mathlib.Core.Bool.{Bool, false}
+use mathlib.Core.Bool.{Bool, true, false}
+use mathlib.Core.List.{[], _∷_}
 use lib.Dec.{eqb}
-use Rattle.rules.specs.Choice.{pick}
+use Rattle.rules.specs.Choice.{pick, every, any}
 use Rattle.rules.specs.Clock.{Kind, busClock, heldClock, cpuClock, clockOf}
 use Rattle.rules.specs.Buffers.{Store, Buffers, source, destination, transfer}
 use Rattle.rules.specs.declared.Place.{Place}
@@ -46,3 +47,29 @@ pub record IsSpan (c : Core) (budget n kind : ℕ) (moves : Bool) (from to : Pla
   pub destination : (i : ℕ) → i + 1 ≡ n → destination (ticks i c) ≡ to
   pub none : n ≡ 0 → moves ≡ false
   pub core : ticks n c ≡ next
+
+-- the next clock ends its slot: of an enabled device it leaves no clock of a slot elapsed. Also the clock that finds the
+-- block finished where a slot would begin
+abbrev pub endsSlot : Core → Bool
+endsSlot c = every (c .enabled ∷ eqb (clockOf c .next .slot .elapsed) 0 ∷ [])
+
+-- of a span of n clocks within a budget, that it is the longest within one slot: no clock but its last ends the slot; where
+-- it is shorter than the budget, its last clock moves a byte or ends the slot; of a disabled device it is the whole budget
+pub record IsLongest (c : Core) (budget n : ℕ) (moves : Bool) : Type 0 where
+  pub inside : (i : ℕ) → i + 1 < n → endsSlot (ticks i c) ≡ false
+  pub reached : (i : ℕ) → i + 1 ≡ n → n < budget → any (moves ∷ endsSlot (ticks i c) ∷ []) ≡ true
+  pub idle : c .enabled ≡ false → n ≡ budget
+
+-- the longest span within one slot
+abbrev pub IsLongestSpan : Core → ℕ → ℕ → ℕ → Bool → Place → Place → Core → Type 0
+IsLongestSpan c budget n kind moves from to next =
+    IsSpan c budget n kind moves from to next × IsLongest c budget n moves
+
+-- two longest spans of a core within the same budget have the same clocks, the same core behind them, and both move a byte
+-- or both do not; where there are clocks, they have the same kind and places
+pub record SpansSettled : Type 0 where
+  pub settled :
+      {c : Core} {budget n m kind kind′ : ℕ} {moves moves′ : Bool} {from from′ to to′ : Place} {next next′ : Core}
+      → IsLongestSpan c budget n kind moves from to next
+      → IsLongestSpan c budget m kind′ moves′ from′ to′ next′
+      → (n ≡ m) × (next ≡ next′) × (moves ≡ moves′) × (0 < n → (kind ≡ kind′) × (from ≡ from′) × (to ≡ to′))

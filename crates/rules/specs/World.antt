@@ -20,6 +20,10 @@ pub record System (M : Type 0) : Type 0 where
   pub world : World M
   pub clocks : Clocks
 
+-- a system from its parts
+abbrev pub system : {M : Type 0} → Core → Buffers M → Clocks → System M
+system c b k = record { world = record { core = c; buffers = b }; clocks = k }
+
 -- a byte that moved: from where, to where, and which
 pub record Move : Type 0 where
   pub from : Place

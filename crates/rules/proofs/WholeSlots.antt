@@ -1,0 +1,300 @@
+-- Whole slots are as many clocks of the definition: first one, its bus time and then its wait; then k of them, by induction,
+-- since below the block's end a slot begins as the last one did; then the run that a budget has room for.
+-- Assumes nothing.
+use Prim.Native.Nat.{ℕ, zero, suc, _+_, _*_, _-_, _/_, _%_, _≤_, _<_}
+use native.Mathlib.Omega.{arith}
+use native.Mathlib.Nat.{add-assoc, suc-mul, one-mul, le-refl, div-mul-le-self, mul-le-mul-right, le-trans}
+use mathlib.Core.Path.{_≡_, refl, sym, _∙_, ap}
+use mathlib.Core.Bool.{Bool, true, false}
+use lib.Dec.{eqb, ltb}
+use borrow.Author.Tests.{eq-eqb, ne-eqb, le-leb, lt-leb, lt-ltb, le-ltb, ltb-true, ltb-false, eqb-true, leb-false, not-true}
+use Rattle.rules.specs.Choice.{pick}
+use Rattle.rules.specs.Parts.{withCounter, withBlock, withSlot}
+use Rattle.rules.specs.Blocks.{blockCount, finished}
+use Rattle.rules.specs.Ports.{stepped}
+use Rattle.rules.specs.Slots.{noSlot}
+use Rattle.rules.specs.Facts.{ValidParts, Kept, SlotLength, busTime, prescaled, ValidSlot, resting, running}
+use Rattle.rules.specs.Clock.{Ending, newSlot, moved, withElapsed, movesAt, movedAt, kindAt, slotEnd, clockEnd, slotClock}
+use Rattle.rules.specs.Buffers.{Store, Buffers, source, destination, transfer}
+use Rattle.rules.specs.World.{System, system, clocked}
+use Rattle.rules.specs.Spans.{kindCode, countedBy, buffersBetween}
+use Rattle.rules.specs.WholeSlots.{stride, steppedBy, movedBy, waitKind, slotsCounted, transferred, slotsPassed, SlotsAreClocks, atSlotStart, slotsWithin}
+use Rattle.rules.specs.declared.Slot.{Slot}
+use Rattle.rules.specs.declared.Clocks.{Clocks}
+use Rattle.rules.specs.declared.Core.{Core}
+use Rattle.rules.proofs.Choice.{pick-true, pick-false, pick-cases, pick-both, either, all-true}
+use Rattle.rules.proofs.Slots.{unmoved-first}
+use Rattle.rules.proofs.Validity.{progress-facts}
+use Rattle.rules.proofs.Steady.{kept-steady, kept-slot}
+use Rattle.rules.proofs.Clocking.{new-length}
+use Rattle.rules.proofs.Counting.{clocked-add}
+use Rattle.rules.proofs.Spans.{span-clocked, counted-none}
+use Rattle.rules.proofs.Stretches.{clock-first, clock-later, Runs, Part, toMove, behind, stretch-span, least-facts}
+
+-- ---- the two clocks of a slot on which something happens
+
+-- the clock of the move, within a longer slot
+move-next : (c : Core) → c .slot .bus < c .slot .length → slotClock (c .slot .bus) c .next ≡ withElapsed (c .slot .bus) (moved c)
+unfolding slotClock movedAt clockEnd
+move-next c h =
+    ap (λ (d : Core). clockEnd (c .slot .bus) d .core) (pick-true _ _ _ (eq-eqb (c .slot .bus) (c .slot .bus) refl))
+    ∙ ap (λ (x : Ending). x .core) (pick-true _ _ _ (lt-ltb (c .slot .bus) (c .slot .length) h))
+
+-- the clock of the move, the slot's last
+move-end : (c : Core) → c .slot .length ≤ c .slot .bus → slotClock (c .slot .bus) c .next ≡ slotEnd (moved c) .core
+unfolding slotClock movedAt clockEnd
+move-end c h =
+    ap (λ (d : Core). clockEnd (c .slot .bus) d .core) (pick-true _ _ _ (eq-eqb (c .slot .bus) (c .slot .bus) refl))
+    ∙ ap (λ (x : Ending). x .core) (pick-false _ _ _ (le-ltb (c .slot .bus) (c .slot .length) h))
+
+-- the last clock of a wait
+wait-end : (c : Core) → c .slot .bus < c .slot .length → slotClock (c .slot .length) c .next ≡ slotEnd c .core
+unfolding slotClock movedAt clockEnd
+wait-end c h =
+    ap (λ (d : Core). clockEnd (c .slot .length) d .core) (pick-false _ _ _ (ne-eqb (c .slot .length) (c .slot .bus) (λ e. omega arith)))
+    ∙ ap (λ (x : Ending). x .core) (pick-false _ _ _ (le-ltb (c .slot .length) (c .slot .length) (le-refl _)))
+
+bus-kind : (c : Core) → kindCode (kindAt (c .slot .bus) c) ≡ 0
+unfolding kindAt
+bus-kind c = ap kindCode (pick-true _ _ _ (le-leb (c .slot .bus) (c .slot .bus) (le-refl _)))
+
+wait-kind : (c : Core) → c .slot .bus < c .slot .length → kindCode (kindAt (c .slot .length) c) ≡ waitKind (c .slot .burst)
+unfolding kindAt waitKind
+wait-kind c h =
+    ap kindCode (pick-false _ _ _ (lt-leb (c .slot .length) (c .slot .bus) h))
+    ∙ either (c .slot .burst)
+    (λ e. ap kindCode (pick-true _ _ _ e) ∙ sym (pick-true _ _ _ e))
+    (λ e. ap kindCode (pick-false _ _ _ e) ∙ sym (pick-false _ _ _ e))
+
+-- ---- one slot
+
+-- a core at the start of a slot
+pub record Starts (c : Core) : Type 0 where
+  pub on : c .enabled ≡ true
+  pub rest : c .slot .elapsed ≡ 0
+  pub unfinished : finished (c .block) ≡ false
+  pub some : 0 < newSlot c .bus
+  pub fits : newSlot c .bus ≤ newSlot c .length
+
+module _ {M : Type 0} (σ : Store M) (s : System M) where
+  -- a stretch of a slot as clocks; m is the number of its last clock
+  stretch-clocked :
+      {d : Core} {n m : ℕ} → Runs (s .world .core) d → s .world .core .slot .elapsed + n ≡ m
+      → Part (s .world .core .slot .elapsed) n (d .slot .bus) → m ≤ d .slot .length → 0 < n
+      → clocked σ n s ≡ record { world = record { core = slotClock m d .next; buffers = buffersBetween σ (movesAt m d) (source (s .world .core)) (destination (s .world .core)) (s .world .buffers) }; clocks = countedBy (kindCode (kindAt m d)) n (s .clocks) }
+  stretch-clocked {d} {n} {m} r e p h l =
+      span-clocked σ s (stretch-span r (record { part = p; goesOn = λ i o. omega arith }) n l (le-refl n))
+      ∙ ap (λ (j : ℕ). record { world = record { core = slotClock j d .next; buffers = buffersBetween σ (movesAt j d) (source (s .world .core)) (destination (s .world .core)) (s .world .buffers) }; clocks = countedBy (kindCode (kindAt j d)) n (s .clocks) }) e
+
+starts-runs : (c : Core) → Starts c → Runs c (withSlot (newSlot c) c)
+unfolding source destination
+starts-runs c t =
+    record {
+      on = t .on;
+      running = t .on;
+      first = clock-first c (t .on) (t .rest) (t .unfinished) ∙ ap (λ (n : ℕ). slotClock (n + 1) (withSlot (newSlot c) c)) (sym (t .rest));
+      source = refl;
+      destination = refl;
+    }
+
+module _ {M : Type 0} (σ : Store M) (c : Core) (b : Buffers M) (k : Clocks) (t : Starts c) where
+  -- the bus time: the byte moves on its last clock
+  bus-part : clocked σ (newSlot c .bus) (system c b k) ≡ system (slotClock (newSlot c .bus) (withSlot (newSlot c) c) .next) (transfer σ (source c) (destination c) b) (countedBy 0 (newSlot c .bus) k)
+  unfolding buffersBetween
+  bus-part =
+      stretch-clocked σ (system c b k) (starts-runs c t) (omega (arith, t .rest)) (toMove (omega (arith, t .rest))) (t .fits) (t .some)
+      ∙ (λ i.
+      system (slotClock (newSlot c .bus) (withSlot (newSlot c) c) .next)
+      (pick-true _ (transfer σ (source c) (destination c) b) b (eq-eqb (newSlot c .bus) (newSlot c .bus) refl) i)
+      (countedBy (bus-kind (withSlot (newSlot c) c) i) (newSlot c .bus) k))
+
+-- the wait, from the move to the slot's end
+module _ {M : Type 0} (σ : Store M) (c : Core) (b : Buffers M) (k : Clocks) (on : c .enabled ≡ true) (some : 0 < c .slot .bus) (longer : c .slot .bus < c .slot .length) (past : c .slot .elapsed ≡ c .slot .bus) where
+  waits : Runs c c
+  waits = record { on = on; running = on; first = clock-later c on (λ e. omega arith); source = refl; destination = refl }
+
+  wait-part : clocked σ (c .slot .length - c .slot .bus) (system c b k) ≡ system (slotEnd c .core) b (countedBy (waitKind (c .slot .burst)) (c .slot .length - c .slot .bus) k)
+  unfolding buffersBetween
+  wait-part =
+      stretch-clocked σ (system c b k) {m = c .slot .length} waits (omega arith) (behind (omega arith)) (le-refl _) (omega arith)
+      ∙ (λ i.
+      system (wait-end c longer i)
+      (pick-false _ (transfer σ (source c) (destination c) b) b (ne-eqb (c .slot .length) (c .slot .bus) (λ e. omega arith)) i)
+      (countedBy (wait-kind c longer i) (c .slot .length - c .slot .bus) k))
+
+-- the slot of an end is no matter
+end-slot : (c : Core) (n : ℕ) → slotEnd (withElapsed n (moved (withSlot (newSlot c) c))) .core ≡ slotEnd (moved c) .core
+unfolding slotEnd
+end-slot c n = refl
+
+end-begun : (c : Core) → slotEnd (moved (withSlot (newSlot c) c)) .core ≡ slotEnd (moved c) .core
+unfolding slotEnd
+end-begun c = refl
+
+module _ {M : Type 0} (σ : Store M) (c : Core) (b : Buffers M) (k : Clocks) (t : Starts c) where
+  -- one slot: its length in clocks moves one byte
+  pub slot-clocked : clocked σ (newSlot c .length) (system c b k) ≡ system (slotEnd (moved c) .core) (transfer σ (source c) (destination c) b) (countedBy (waitKind (c .control .burst)) (newSlot c .length - newSlot c .bus) (countedBy 0 (newSlot c .bus) k))
+  slot-clocked =
+      either (ltb (newSlot c .bus) (newSlot c .length))
+      (λ e.
+      let h : newSlot c .bus < newSlot c .length = ltb-true (newSlot c .bus) (newSlot c .length) e in
+      ap (λ (n : ℕ). clocked σ n (system c b k)) (let z : newSlot c .length ≡ newSlot c .bus + (newSlot c .length - newSlot c .bus) = omega arith in z)
+      ∙ clocked-add σ (newSlot c .bus) (newSlot c .length - newSlot c .bus) (system c b k)
+      ∙ ap (clocked σ (newSlot c .length - newSlot c .bus)) (bus-part σ c b k t)
+      ∙ ap (λ (d : Core). clocked σ (newSlot c .length - newSlot c .bus) (system d (transfer σ (source c) (destination c) b) (countedBy 0 (newSlot c .bus) k))) (move-next (withSlot (newSlot c) c) h)
+      ∙ wait-part σ (withElapsed (newSlot c .bus) (moved (withSlot (newSlot c) c))) (transfer σ (source c) (destination c) b) (countedBy 0 (newSlot c .bus) k) (t .on) (t .some) h refl
+      ∙ ap (λ (d : Core). system d (transfer σ (source c) (destination c) b) (countedBy (waitKind (c .control .burst)) (newSlot c .length - newSlot c .bus) (countedBy 0 (newSlot c .bus) k))) (end-slot c _))
+      (λ e.
+      let h : newSlot c .length ≤ newSlot c .bus = ltb-false (newSlot c .bus) (newSlot c .length) e in
+      ap (λ (n : ℕ). clocked σ n (system c b k)) (let z : newSlot c .length ≡ newSlot c .bus = omega (arith, t .fits) in z)
+      ∙ bus-part σ c b k t
+      ∙ (λ i. system ((move-end (withSlot (newSlot c) c) h ∙ end-begun c) i) (transfer σ (source c) (destination c) b) (countedBy 0 (newSlot c .bus) k))
+      ∙ ap (system (slotEnd (moved c) .core) (transfer σ (source c) (destination c) b))
+      (sym (counted-none (waitKind (c .control .burst)) (countedBy 0 (newSlot c .bus) k))
+      ∙ ap (λ (n : ℕ). countedBy (waitKind (c .control .burst)) n (countedBy 0 (newSlot c .bus) k)) (let z : 0 ≡ newSlot c .length - newSlot c .bus = omega arith in z)))
+
+-- ---- k slots
+
+-- the clocks of one slot more
+counted-again : (burst : Bool) (j w b : ℕ) (x : Clocks) → countedBy (waitKind burst) w (countedBy 0 b (countedBy (waitKind burst) (j * w) (countedBy 0 (j * b) x))) ≡ countedBy (waitKind burst) (suc j * w) (countedBy 0 (suc j * b) x)
+unfolding countedBy waitKind pick
+counted-again true j w b x = simp (suc-mul, add-assoc)
+counted-again false j w b x = simp (suc-mul, add-assoc)
+
+moved-more : (j : ℕ) (c : Core) → moved (movedBy j c) ≡ movedBy (suc j) c
+unfolding steppedBy
+moved-more j c =
+    ap (λ (n : ℕ). withBlock (withCounter n (c .block)) (movedBy (suc j) c)) (let z : c .block .counter + j + 1 ≡ c .block .counter + suc j = omega arith in z)
+
+moved-one : (c : Core) → moved c ≡ movedBy 1 c
+unfolding steppedBy
+moved-one c = refl
+
+module _ {M : Type 0} (σ : Store M) (c : Core) (b : Buffers M) (k : Clocks) (t : Starts c) (rest : c .slot ≡ noSlot) where
+  below : (j : ℕ) → c .block .counter + j < blockCount (c .block) → finished (movedBy j c .block) ≡ false
+  unfolding finished blockCount
+  below j h = lt-leb _ _ h
+
+  starts-below : (j : ℕ) → c .block .counter + j < blockCount (c .block) → Starts (movedBy j c)
+  starts-below j h = record { on = t .on; rest = t .rest; unfinished = below j h; some = t .some; fits = t .fits }
+
+  -- below the block's end a slot begins as the last one did
+  end-below : (j : ℕ) → c .block .counter + j < blockCount (c .block) → slotEnd (movedBy j c) .core ≡ movedBy j c
+  unfolding slotEnd
+  end-below j h = ap (λ (x : Ending). x .core) (pick-false _ _ _ (below j h)) ∙ (λ i. withSlot (sym rest i) (movedBy j c))
+
+  pub slots-clocked : (j : ℕ) → c .block .counter + suc j ≤ blockCount (c .block) → clocked σ (suc j * newSlot c .length) (system c b k) ≡ slotsPassed σ (suc j) (system c b k)
+  unfolding transferred source destination steppedBy
+  slots-clocked zero h =
+      ap (λ (n : ℕ). clocked σ n (system c b k)) (let z : 1 * newSlot c .length ≡ newSlot c .length = omega arith in z)
+      ∙ slot-clocked σ c b k t
+      ∙ (λ i. system (slotEnd (moved-one c i) .core) (transferred σ 1 c b)
+      (countedBy (waitKind (c .control .burst)) (sym (one-mul (newSlot c .length - newSlot c .bus)) i) (countedBy 0 (sym (one-mul (newSlot c .bus)) i) k)))
+  slots-clocked (suc j) h =
+      ap (λ (n : ℕ). clocked σ n (system c b k)) (suc-mul (suc j) (newSlot c .length))
+      ∙ clocked-add σ (suc j * newSlot c .length) (newSlot c .length) (system c b k)
+      ∙ ap (clocked σ (newSlot c .length)) (slots-clocked j (omega arith) ∙ ap (λ (d : Core). system d (transferred σ (suc j) c b) (slotsCounted (suc j) (newSlot c) k)) (end-below (suc j) (omega arith)))
+      ∙ slot-clocked σ (movedBy (suc j) c) (transferred σ (suc j) c b) (slotsCounted (suc j) (newSlot c) k) (starts-below (suc j) (omega arith))
+      ∙ (λ i. system (slotEnd (moved-more (suc j) c i) .core) (transferred σ (suc (suc j)) c b)
+      (counted-again (c .control .burst) (suc j) (newSlot c .length - newSlot c .bus) (newSlot c .bus) k i))
+
+-- ---- the start of a slot of a valid core
+
+length-fits : (s : Slot) → s .bus ≤ 8 → SlotLength s → s .bus ≤ s .length
+length-fits s h (busTime e) = omega arith
+length-fits s h (prescaled l m e) = omega arith
+
+-- at the start of a slot the block is not finished
+pub valid-fresh : (c : Core) → ValidParts c → c .enabled ≡ true → c .slot .elapsed ≡ 0 → finished (c .block) ≡ false
+valid-fresh c v on e = progress-facts _ _ _ (v .progress) on (unmoved-first (c .slot) e)
+
+pub kept-starts : (c : Core) → Kept c → c .enabled ≡ true → c .slot .elapsed ≡ 0 → Starts c
+kept-starts c k on e =
+    let s = kept-steady c k in
+    record {
+      on = on;
+      rest = e;
+      unfinished = valid-fresh c (k .valid) on e;
+      some = omega (arith, s .a .cycle, s .b .cycle);
+      fits = length-fits (newSlot c) (omega (arith, s .a .cycle, s .b .cycle)) (new-length c (s .prescaler));
+    }
+
+resting-slot : (t : Bool) (s : Slot) → ValidSlot t s → s .elapsed ≡ 0 → s ≡ noSlot
+resting-slot t s (resting r) e = λ i. record { elapsed = r .elapsed i; bus = r .bus i; length = r .length i; burst = r .burst i }
+resting-slot t s (running on r) e = absurd (omega (arith, r .elapsed))
+
+kept-rest : (c : Core) → Kept c → c .slot .elapsed ≡ 0 → c .slot ≡ noSlot
+kept-rest c k e = resting-slot _ _ (kept-slot c k) e
+
+-- ---- the run that a budget has room for
+
+-- k slots of a core at the start of one, within a budget and up to the block's end
+pub record IsRun (c : Core) (budget k : ℕ) : Type 0 where
+  pub on : c .enabled ≡ true
+  pub rest : c .slot .elapsed ≡ 0
+  pub within : k * newSlot c .length ≤ budget
+  pub block : c .block .counter + k ≤ blockCount (c .block)
+
+-- what the tests say
+pub record AtSlotStart (c : Core) : Type 0 where
+  pub on : c .enabled ≡ true
+  pub rest : c .slot .elapsed ≡ 0
+  pub block : c .block .counter < blockCount (c .block)
+  pub length : 0 < newSlot c .length
+
+pub at-slot-start : (c : Core) → atSlotStart c ≡ true → AtSlotStart c
+unfolding atSlotStart finished
+at-slot-start c e =
+    let h = all-true _ e in
+    record {
+      on = h .0;
+      rest = eqb-true (c .slot .elapsed) 0 (h .1 .0);
+      block = leb-false (blockCount (c .block)) (c .block .counter) (not-true _ (h .1 .1 .0));
+      length = ltb-true 0 (newSlot c .length) (h .1 .1 .1 .0);
+    }
+
+pub run-within : (c : Core) (budget : ℕ) → 0 < slotsWithin c budget → IsRun c budget (slotsWithin c budget)
+unfolding slotsWithin
+run-within c budget =
+    pick-cases (λ (n : ℕ). 0 < n → IsRun c budget n) (atSlotStart c) _ _
+    (λ e p.
+    let h = at-slot-start c e in
+    let l = least-facts (budget / newSlot c .length) (blockCount (c .block) - c .block .counter) in
+    record {
+      on = h .on;
+      rest = h .rest;
+      within = le-trans (mul-le-mul-right (newSlot c .length) (l .first)) (div-mul-le-self budget (newSlot c .length));
+      block = omega (arith, h .block, l .second);
+    })
+    (λ e p. absurd (omega arith))
+
+-- a run is its clocks, over any memory
+pub slots-are-clocks : {M : Type 0} (σ : Store M) → SlotsAreClocks σ
+slots-are-clocks σ = record { slots = slots }
+  where
+    slots : (s : System _) (k : ℕ) → Kept (s .world .core) → s .world .core .enabled ≡ true → s .world .core .slot .elapsed ≡ 0 → 0 < k → s .world .core .block .counter + k ≤ blockCount (s .world .core .block) → clocked σ (k * newSlot (s .world .core) .length) s ≡ slotsPassed σ k s
+    slots s zero h on e l b = absurd (omega arith)
+    slots s (suc j) h on e l b = slots-clocked σ (s .world .core) (s .world .buffers) (s .clocks) (kept-starts (s .world .core) h on e) (kept-rest (s .world .core) h e) j b
+
+-- ---- steps by a stride
+
+stepped-below : (step p : ℕ) → p < 65536 → stepped step p < 65536
+unfolding stepped
+stepped-below step p h =
+    pick-both (λ (n : ℕ). n < 65536) _ _ _ (omega arith) (pick-both (λ (n : ℕ). n < 65536) _ _ _ (omega arith) h)
+
+pub stepped-by-below : (k step p : ℕ) → p < 65536 → steppedBy k step p < 65536
+unfolding steppedBy
+stepped-by-below zero step p h = h
+stepped-by-below (suc k) step p h = stepped-below step (steppedBy k step p) (stepped-by-below k step p h)
+
+-- a step is its stride added, modulo 65,536
+by-stride : (down up : Bool) (p : ℕ) → p < 65536 → (p + pick down 65535 (pick up 1 0)) % 65536 ≡ pick down ((p + 65535) % 65536) (pick up ((p + 1) % 65536) p)
+unfolding pick
+by-stride true up p h = refl
+by-stride false true p h = refl
+by-stride false false p h = omega arith
+
+pub stepped-stride : (step p : ℕ) → p < 65536 → (p + stride step) % 65536 ≡ stepped step p
+unfolding stepped stride
+stepped-stride step p h = by-stride (eqb step 0) (eqb step 1) p h

@@ -1,0 +1,80 @@
+-- Whole slots at once: k of them, up to the block's end, move k bytes.
+-- Assumes nothing.
+use Prim.Native.Nat.{ℕ, zero, suc, _+_, _*_, _-_, _/_, _≤_, _<_}
+use mathlib.Core.Path.{_≡_}
+use mathlib.Core.Bool.{Bool, true, not}
+use mathlib.Core.List.{[], _∷_}
+use lib.Dec.{eqb, ltb}
+use Rattle.rules.specs.Choice.{pick, every}
+use Rattle.rules.specs.Parts.{withPointer, withCounter, withT, withA, withB, withBlock, withStatus}
+use Rattle.rules.specs.Ports.{stepped}
+use Rattle.rules.specs.Blocks.{blockCount, finished}
+use Rattle.rules.specs.Facts.{Kept}
+use Rattle.rules.specs.Clock.{newSlot, slotEnd}
+use Rattle.rules.specs.Buffers.{Store, Buffers, source, destination, transfer}
+use Rattle.rules.specs.World.{System, system, clocked}
+use Rattle.rules.specs.Spans.{countedBy}
+use Rattle.rules.specs.Stretches.{least}
+use Rattle.rules.specs.declared.Port.{Port}
+use Rattle.rules.specs.declared.Slot.{Slot}
+use Rattle.rules.specs.declared.Clocks.{Clocks}
+use Rattle.rules.specs.declared.Core.{Core}
+
+-- at the start of a slot of some clocks: enabled, no clock elapsed, the block not finished
+unfoldable pub atSlotStart : Core → Bool
+atSlotStart c =
+    every (c .enabled ∷ eqb (c .slot .elapsed) 0 ∷ not (finished (c .block)) ∷ ltb 0 (newSlot c .length) ∷ [])
+
+-- the whole slots that a budget of clocks has room for, up to the block's end: none but at the start of one
+unfoldable pub slotsWithin : Core → ℕ → ℕ
+slotsWithin c budget =
+    pick (atSlotStart c) (least (budget / newSlot c .length) (blockCount (c .block) - c .block .counter)) 0
+
+-- what a step code adds to an address modulo 65,536
+unfoldable pub stride : ℕ → ℕ
+stride step = pick (eqb step 0) 65535 (pick (eqb step 1) 1 0)
+
+-- the address after k bytes
+unfoldable pub steppedBy : ℕ → ℕ → ℕ → ℕ
+steppedBy zero step pointer = pointer
+steppedBy (suc k) step pointer = stepped step (steppedBy k step pointer)
+
+abbrev pub advancedBy : ℕ → Port → Port
+advancedBy k p = withPointer (steppedBy k (p .step) (p .pointer)) p
+
+-- the core after k bytes, one at least
+abbrev pub movedBy : ℕ → Core → Core
+movedBy k c =
+    withA (advancedBy k (c .a))
+    (withB (advancedBy k (c .b)) (withBlock (withCounter (c .block .counter + k) (c .block)) (withStatus (withT true (c .status)) c)))
+
+-- the number of the kind of a slot's waiting clocks
+unfoldable pub waitKind : Bool → ℕ
+waitKind burst = pick burst 2 1
+
+-- the clocks of k slots counted
+abbrev pub slotsCounted : ℕ → Slot → Clocks → Clocks
+slotsCounted k s x = countedBy (waitKind (s .burst)) (k * (s .length - s .bus)) (countedBy 0 (k * s .bus) x)
+
+module _ {M : Type 0} (σ : Store M) where
+  -- the buffers after k bytes, one after the other
+  unfoldable pub transferred : ℕ → Core → Buffers M → Buffers M
+  transferred zero c b = b
+  transferred (suc k) c b = transfer σ (source (movedBy k c)) (destination (movedBy k c)) (transferred k c b)
+
+  -- k whole slots, one at least, of a core at the start of a slot whose block has as many bytes left: the bytes moved, the
+  -- clocks counted, and one slot's end
+  abbrev pub slotsPassed : ℕ → System M → System M
+  slotsPassed k s =
+      system (slotEnd (movedBy k (s .world .core)) .core)
+      (transferred k (s .world .core) (s .world .buffers))
+      (slotsCounted k (newSlot (s .world .core)) (s .clocks))
+
+  -- k whole slots, one at least, are k times their length of single clocks: of a core as the calls meet it, valid and
+  -- within its types, at the start of a slot, up to the block's end
+  pub record SlotsAreClocks : Type 0 where
+    pub slots :
+        (s : System M) (k : ℕ)
+        → Kept (s .world .core) → s .world .core .enabled ≡ true → s .world .core .slot .elapsed ≡ 0
+        → 0 < k → s .world .core .block .counter + k ≤ blockCount (s .world .core .block)
+        → clocked σ (k * newSlot (s .world .core) .length) s ≡ slotsPassed k s
