@@ -125,17 +125,26 @@ pub fn mask_asked() -> Pending
 fn may_follow(x: u8, y: u8) -> bool
     ensures { λ r. ⌜ r ≡ follows x y ⌝ }
 {
+    if y == 0 {
+        return true;
+    }
     let in_wr0 = (A_LOW <= x) & ((x < y) & (y <= LENGTH_HIGH));
     let in_wr4 = (B_LOW <= x) & ((x < y) & (y <= B_HIGH));
-    (y == 0) | (in_wr0 | in_wr4)
+    in_wr0 | in_wr4
 }
 
 // The sequence is a tail of one that a register asks for.
 pub fn is_valid(p: Pending) -> bool
     ensures { λ r. ⌜ r ≡ validPending p ⌝ }
 {
-    let second = may_follow(p.first, p.second);
-    let third = may_follow(p.second, p.third);
-    let fourth = may_follow(p.third, p.fourth);
-    (p.first <= READ_MASK) & (second & (third & fourth))
+    if READ_MASK < p.first {
+        return false;
+    }
+    if !may_follow(p.first, p.second) {
+        return false;
+    }
+    if !may_follow(p.second, p.third) {
+        return false;
+    }
+    may_follow(p.third, p.fourth)
 }

@@ -11,9 +11,10 @@ use rules::Core;
 pub fn is_valid(c: Core, k: Clocks) -> bool
     ensures { λ r. ⌜ r ≡ valid c (total k) ⌝ }
 {
-    let core = valid::valid_core(c);
-    let sum = valid::fits(k);
-    core & sum
+    if !valid::valid_core(c) {
+        return false;
+    }
+    valid::fits(k)
 }
 
 // The port is not one of the device's.

@@ -59,17 +59,23 @@ fn valid_slot(enabled: bool, s: Slot) -> bool
     if s.elapsed == 0 {
         return resting_slot(s);
     }
-    let running = running_slot(s);
-    enabled & running
+    if !enabled {
+        return false;
+    }
+    running_slot(s)
 }
 
 // An enabled device whose byte has not moved has not finished its block.
 fn valid_progress(enabled: bool, b: Block, s: Slot) -> bool
     ensures { λ r. ⌜ r ≡ validProgress enabled b s ⌝ }
 {
-    let unmoved = slot::is_unmoved(s);
-    let finished = block::is_finished(b);
-    !(enabled & (unmoved & finished))
+    if !enabled {
+        return true;
+    }
+    if !slot::is_unmoved(s) {
+        return true;
+    }
+    !block::is_finished(b)
 }
 
 // The core is valid.
@@ -82,14 +88,25 @@ pub fn valid_core(c: Core) -> bool
     let readback = c.readback;
     let codes = c.pending;
     let slot = c.slot;
-    let port_a = valid_port(a);
-    let port_b = valid_port(b);
-    let counter = block.counter <= 65536;
-    let reading = valid_readback(readback);
-    let sequence = pending::is_valid(codes);
-    let figures = valid_slot(c.enabled, slot);
-    let progress = valid_progress(c.enabled, block, slot);
-    port_a & (port_b & (counter & (reading & (sequence & (figures & progress)))))
+    if !valid_port(a) {
+        return false;
+    }
+    if !valid_port(b) {
+        return false;
+    }
+    if 65536 < block.counter {
+        return false;
+    }
+    if !valid_readback(readback) {
+        return false;
+    }
+    if !pending::is_valid(codes) {
+        return false;
+    }
+    if !valid_slot(c.enabled, slot) {
+        return false;
+    }
+    valid_progress(c.enabled, block, slot)
 }
 
 // The sum of the clock counts fits 64 bits; no sum wraps on the way.
