@@ -1,2 +1,5 @@
 pub mod Room
 pub mod Moving
+pub mod Lengths
+pub mod Spanning
+pub mod Carrying

@@ -1,20 +1,23 @@
 -- Room for clocks: a valid core has it, and counts whose sum has it have it.
 -- Assumes nothing.
-use Prim.Native.Nat.{ℕ, _+_, _-_, _≤_, _<_}
+use Prim.Native.Nat.{ℕ, _+_, _*_, _-_, _≤_, _<_}
 use native.Mathlib.Omega.{arith}
+use native.Mathlib.Nat.{mul-add}
 use mathlib.Core.Path.{_≡_, refl, ap, subst, _∙_}
 use mathlib.Core.Bool.{Bool, true}
 use borrow.Author.Tests.{lt-ltb, ltb-true, le-leb}
-use lib.Dec.{eqb, leb, ltb}
+use lib.Dec.{eqb, ltb}
 use Rattle.rules.specs.Choice.{pick}
 use Rattle.rules.specs.Validity.{validCore, total, most64}
 use Rattle.rules.specs.Spans.{countedBy, IsSpan}
+use Rattle.rules.specs.WholeSlots.{waitKind, slotsCounted}
 use Rattle.rules.specs.declared.Place.{Place}
+use Rattle.rules.specs.declared.Slot.{Slot}
 use Rattle.rules.specs.declared.Clocks.{Clocks}
 use Rattle.rules.specs.declared.Core.{Core}
-use Rattle.rules.proofs.Choice.{pick-true, pick-cases}
+use Rattle.rules.proofs.Choice.{pick-true, pick-cases, pick-both}
 use Rattle.rules.proofs.Validity.{valid-bounded}
-use Rattle.clocking.specs.Answers.{roomFor, added, countedWithin}
+use Rattle.clocking.specs.Answers.{roomFor, added, countedWithin, slotsCountedWithin}
 
 -- where a span takes a clock, counter and slot can take one more
 pub roomy : (c : Core) (budget : ℕ) → (roomFor c budget ≡ 0 → ⊥) → (c .block .counter < 4294967295) × (c .slot .elapsed < 65535)
@@ -47,3 +50,23 @@ counted-all kind n k h =
     λ i. pick (eqb kind 0) (record { bus = added-all (k .bus) n (omega arith) i; held = k .held; cpu = k .cpu })
     (pick (eqb kind 1) (record { bus = k .bus; held = added-all (k .held) n (omega arith) i; cpu = k .cpu })
     (record { bus = k .bus; held = k .held; cpu = added-all (k .cpu) n (omega arith) i }))
+
+total-counted-by : (kind n : ℕ) (k : Clocks) → total (countedBy kind n k) ≡ total k + n
+unfolding countedBy
+total-counted-by kind n k =
+    pick-both (λ (x : Clocks). total x ≡ total k + n) _ _ _ (omega arith)
+    (pick-both (λ (x : Clocks). total x ≡ total k + n) _ _ _ (omega arith) (omega arith))
+
+-- the clocks of k slots, in two parts
+pub slots-split : (k : ℕ) (s : Slot) → s .bus ≤ s .length → k * s .length ≡ k * s .bus + k * (s .length - s .bus)
+slots-split k s h = ap (λ (n : ℕ). k * n) (let z : s .length ≡ s .bus + (s .length - s .bus) = omega arith in z) ∙ mul-add k (s .bus) (s .length - s .bus)
+
+-- of counts that have room all clocks of k slots are counted
+pub slots-counted-all : (k : ℕ) (s : Slot) (x : Clocks) → s .bus ≤ s .length → total x + k * s .length ≤ most64 → slotsCountedWithin k s x ≡ slotsCounted k s x
+slots-counted-all k s x f h =
+    let z = slots-split k s f in
+    counted-all (waitKind (s .burst)) (k * (s .length - s .bus)) (countedWithin 0 (k * s .bus) x) (omega (arith, ap (λ (y : Clocks). total y) (first z), total-counted-by 0 (k * s .bus) x))
+    ∙ ap (countedBy (waitKind (s .burst)) (k * (s .length - s .bus))) (first z)
+  where
+    first : k * s .length ≡ k * s .bus + k * (s .length - s .bus) → countedWithin 0 (k * s .bus) x ≡ countedBy 0 (k * s .bus) x
+    first z = counted-all 0 (k * s .bus) x (omega arith)

@@ -1,17 +1,18 @@
-// One clock of the core, and the span of clocks that it answers.
+// The clocks of a slot, and the span of clocks that a core answers.
 ghost use mathlib.Core.Path.{_≡_};
 ghost use Prim.Native.Nat.{_<_};
 ghost use mathlib.Core.List.{[], _∷_};
-ghost use lib.Dec.{ltb};
-ghost use Rattle.rules.specs.Choice.{every};
+ghost use lib.Dec.{eqb, ltb};
+ghost use Rattle.rules.specs.Choice.{pick, every};
 ghost use Rattle.rules.specs.Parts.{withSlot};
 ghost use Rattle.rules.specs.Ports.{stepped, advanced};
-ghost use Rattle.rules.specs.Blocks.{blockCount};
+ghost use Rattle.rules.specs.Blocks.{blockCount, finished};
 ghost use Rattle.rules.specs.Slots.{noSlot};
-ghost use Rattle.rules.specs.Clock.{slotLength, newSlot, moved, stopped, restarted, movedAt, kindAt, slotEnd, clockEnd, slotClock, firstClock, clockOf};
+ghost use Rattle.rules.specs.Clock.{slotLength, newSlot, moved, stopped, restarted, movedAt, kindAt, slotEnd, clockEnd, slotClock};
 ghost use Rattle.rules.specs.Buffers.{source, destination, placeOf};
-ghost use Rattle.rules.specs.Spans.{kindCode, IsSpan};
-ghost use Rattle.clocking.specs.Answers.{tick, roomFor};
+ghost use Rattle.rules.specs.Spans.{kindCode, IsLongestSpan};
+ghost use Rattle.clocking.specs.Answers.{tick, roomFor, cpuSpan, MayRun};
+use crate::stretch;
 use registers::block;
 use registers::command;
 use registers::part;
@@ -38,7 +39,7 @@ pub struct Tick {
 pub struct Span {
     // BUS, HELD or CPU.
     pub kind: u8,
-    // How many clocks: within the budget, and 0 only for a budget of 0.
+    // How many clocks: the fewer of the budget and the present stretch of the slot; of a disabled device the budget.
     pub clocks: u32,
     // A byte moves on the last clock, from one place to the other.
     pub moves: bool,
@@ -89,7 +90,7 @@ fn slot_length(prescaler: u8, bus: u16) -> u16
 }
 
 // The slot that the registers start.
-fn new_slot(c: Core) -> Slot
+pub fn new_slot(c: Core) -> Slot
     ensures { λ r. ⌜ r ≡ newSlot c ⌝ }
 {
     let a = wide(c.a.cycle);
@@ -135,7 +136,7 @@ fn moved_at(n: u16, c: Core) -> Core
 }
 
 // The kind of the slot's `n`-th clock.
-fn kind_at(n: u16, c: Core) -> u8
+pub fn kind_at(n: u16, c: Core) -> u8
     ensures { λ r. ⌜ r ≡ kindCode (kindAt n c) ⌝ }
 {
     if n <= c.slot.bus {
@@ -182,7 +183,7 @@ fn restarts(c: Core) -> bool
 }
 
 // The end of a slot.
-fn end_slot(c: Core) -> Core
+pub fn end_slot(c: Core) -> Core
     ensures { λ r. ⌜ r ≡ slotEnd c .core ⌝ }
 {
     let b = c.block;
@@ -219,45 +220,6 @@ fn slot_clock(n: u16, c: Core) -> Tick
     Tick { kind, moves, next }
 }
 
-// A slot's first clock.
-fn first_clock(c: Core) -> Tick
-    requires { ⌜ c .block .counter < 4294967295 ⌝ }
-    ensures { λ r. ⌜ r ≡ tick (firstClock c) ⌝ }
-{
-    let b = c.block;
-    if block::is_finished(b) {
-        let next = stop(c);
-        return Tick {
-            kind: CPU,
-            moves: false,
-            next,
-        };
-    }
-    let slot = new_slot(c);
-    let mut begun = c;
-    begun.slot = slot;
-    slot_clock(1, begun)
-}
-
-// One clock of a core whose counter and slot are within their bounds, as a valid core's are.
-fn clock(c: Core) -> Tick
-    requires { ⌜ (c .block .counter < 4294967295) × (c .slot .elapsed < 65535) ⌝ }
-    ensures { λ r. ⌜ r ≡ tick (clockOf c) ⌝ }
-{
-    if c.enabled {
-        if c.slot.elapsed == 0 {
-            return first_clock(c);
-        }
-        let n = c.slot.elapsed + 1;
-        return slot_clock(n, c);
-    }
-    Tick {
-        kind: CPU,
-        moves: false,
-        next: c,
-    }
-}
-
 // Where a port's next byte lies.
 fn place_of(p: Port) -> Place
     ensures { λ r. ⌜ r ≡ placeOf p ⌝ }
@@ -268,16 +230,23 @@ fn place_of(p: Port) -> Place
     }
 }
 
+// Where the next byte of one of two ports lies.
+pub(crate) fn place_in(first: bool, p: Port, q: Port) -> Place
+    ensures { λ r. ⌜ r ≡ pick first (placeOf p) (placeOf q) ⌝ }
+{
+    if first {
+        return place_of(p);
+    }
+    place_of(q)
+}
+
 // Where the next byte is read.
 fn source_of(c: Core) -> Place
     ensures { λ r. ⌜ r ≡ source c ⌝ }
 {
     let a = c.a;
     let b = c.b;
-    if c.control.forward {
-        return place_of(a);
-    }
-    place_of(b)
+    place_in(c.control.forward, a, b)
 }
 
 // Where the next byte is written.
@@ -286,10 +255,7 @@ fn destination_of(c: Core) -> Place
 {
     let a = c.a;
     let b = c.b;
-    if c.control.forward {
-        return place_of(b);
-    }
-    place_of(a)
+    place_in(c.control.forward, b, a)
 }
 
 // The clocks that a span may take of a budget.
@@ -305,31 +271,72 @@ fn room_for(c: Core, budget: u32) -> u32
     0
 }
 
-// The next span of a core's clocks within a budget: one clock, or none for a budget of 0. Of a core whose counter or slot
-// is at the end of its type, as no valid core's is, none.
-pub fn next_span(c: Core, budget: u32) -> Span
-    ensures { λ r. ⌜ IsSpan c (roomFor c budget) (r .clocks) (r .kind) (r .moves) (r .from) (r .to) (r .next) ⌝ }
+// Clocks of the processor, after which the core is `next`.
+fn cpu_span(clocks: u32, c: Core, next: Core) -> Span
+    ensures { λ r. ⌜ r ≡ cpuSpan clocks c next ⌝ }
 {
     let from = source_of(c);
     let to = destination_of(c);
-    if room_for(c, budget) == 0 {
-        return Span {
-            kind: CPU,
-            clocks: 0,
-            moves: false,
-            from,
-            to,
-            next: c,
-        };
+    Span {
+        kind: CPU,
+        clocks,
+        moves: false,
+        from,
+        to,
+        next,
     }
-    let tick = clock(c);
+}
+
+// A slot would begin, and the block is finished.
+fn starts_finished(c: Core) -> bool
+    ensures { λ r. ⌜ r ≡ every (eqb (c .slot .elapsed) 0 ∷ finished (c .block) ∷ []) ⌝ }
+{
+    let b = c.block;
+    let done = block::is_finished(b);
+    (c.slot.elapsed == 0) & done
+}
+
+// The next span of a slot that runs or begins.
+fn slot_span(c: Core, budget: u32) -> Span
+    requires { ⌜ MayRun c budget ⌝ }
+    ensures { λ r. ⌜ IsLongestSpan c budget (r .clocks) (r .kind) (r .moves) (r .from) (r .to) (r .next) ⌝ }
+{
+    let from = source_of(c);
+    let to = destination_of(c);
+    let slot = stretch::slot_of(c);
+    let rest = stretch::stretch_rest(slot);
+    let clocks = stretch::least(budget, rest);
+    let some = clocks as u16;
+    let last = c.slot.elapsed + some;
+    let mut running = c;
+    running.slot = slot;
+    let tick = slot_clock(last, running);
     let next = tick.next;
     Span {
         kind: tick.kind,
-        clocks: 1,
+        clocks,
         moves: tick.moves,
         from,
         to,
         next,
     }
+}
+
+// The next span of a core's clocks within a budget, the longest within one slot: the rest of its bus time or of its wait,
+// or all clocks of a disabled device. Of a core whose counter or slot is at the end of its type, as no valid core's is, none.
+pub fn next_span(c: Core, budget: u32) -> Span
+    ensures { λ r. ⌜ IsLongestSpan c (roomFor c budget) (r .clocks) (r .kind) (r .moves) (r .from) (r .to) (r .next) ⌝ }
+{
+    let room = room_for(c, budget);
+    if room == 0 {
+        return cpu_span(0, c, c);
+    }
+    if !c.enabled {
+        return cpu_span(room, c, c);
+    }
+    if starts_finished(c) {
+        let next = stop(c);
+        return cpu_span(1, c, next);
+    }
+    slot_span(c, room)
 }

@@ -26,6 +26,13 @@ pub fn add(kind: u8, n: u32, k: Clocks) -> Clocks
     ensures { λ r. ⌜ r ≡ countedWithin kind n k ⌝ }
 {
     let clocks = wide(n);
+    add_all(kind, clocks, k)
+}
+
+// The same for a larger number.
+pub(crate) fn add_all(kind: u8, clocks: u64, k: Clocks) -> Clocks
+    ensures { λ r. ⌜ r ≡ countedWithin kind clocks k ⌝ }
+{
     if kind == clock::BUS {
         let bus = more(k.bus, clocks);
         let mut next = k;

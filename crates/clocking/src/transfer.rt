@@ -44,7 +44,7 @@ fn load(memory: &[u8], latches: &[u8], p: Place) -> u8
 }
 
 // One byte moves from one place to the other.
-fn move_byte(memory: &mut [u8], latches: &mut [u8], from: Place, to: Place)
+pub(crate) fn move_byte(memory: &mut [u8], latches: &mut [u8], from: Place, to: Place)
     ensures { λ r. ⌜ borrowed (now (memory .exit)) (now (latches .exit)) ≡ transfer flat from to (borrowed (now (memory .entry)) (now (latches .entry))) ⌝ }
 {
     let byte = load(memory, latches, from);

@@ -1,22 +1,16 @@
-use Rattle.rules.specs.Choice.{pick}
+-- It is the place in the port that the direction names.
+-- Assumes nothing.
 use Rattle.rules.specs.Buffers.{destination}
 use borrow.Author.Needs.{needs}
 use Rattle.clocking.proofs.clock.destination_of.Statement.{statement}
 use Rattle.clocking.proofs.clock.destination_of.Tie as tie
 
-place-of-requires : tie.Need-place-of-requires
-place-of-requires c κs = search needs
+place-in-requires : tie.Need-place-in-requires
+place-in-requires c κs = search needs
 
 returns : tie.Need-returns
-unfolding destination pick
-returns c = simp (c .before .if1 .taken, c .place-of .ensures)
-
-place-of-requires-2 : tie.Need-place-of-requires-2
-place-of-requires-2 c κs = search needs
-
-returns-2 : tie.Need-returns-2
-unfolding destination pick
-returns-2 c = simp (c .before .if1 .left, c .place-of2 .ensures)
+unfolding destination
+returns c = c .place-in .ensures
 
 pub destination-of-spec : {M : Type 1} → statement M
-destination-of-spec = tie.close (tie.spec place-of-requires returns place-of-requires-2 returns-2)
+destination-of-spec = tie.close (tie.spec place-in-requires returns)

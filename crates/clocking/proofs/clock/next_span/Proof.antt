@@ -1,47 +1,61 @@
-use mathlib.Core.Path.{sym, _∙_}
-use Rattle.rules.proofs.Spans.{span-none, span-one}
-use Rattle.clocking.proofs.Room.{roomy}
+-- Each answer is the law of its case: no room, a disabled device, a finished block, a slot.
+-- Assumes nothing.
+use mathlib.Core.Path.{sym, _∙_, ap}
+use borrow.Author.Tests.{not-true, not-false}
+use Rattle.clocking.proofs.Spanning.{positive, none-answers, idle-answers, stop-answers, may-run}
+use Rattle.clocking.specs.Answers.{cpuSpan}
 use borrow.Author.Needs.{needs}
 use Rattle.clocking.proofs.clock.next_span.Statement.{statement}
 use Rattle.clocking.proofs.clock.next_span.Tie as tie
-use Rattle.clocking.proofs.clock.next_span.Reads as reads
-use Rattle.clocking.proofs.clock.next_span.Lts as lts
-use Rattle.clocking.proofs.clock.clock.Reads as clock-reads
-use Rattle.clocking.proofs.clock.destination_of.Reads as destination-of-reads
-use Rattle.clocking.proofs.clock.room_for.Reads as room-for-reads
-use Rattle.clocking.proofs.clock.source_of.Reads as source-of-reads
 
--- src/clock.rt:313:9
-source-of-requires : tie.Need-source-of-requires
-source-of-requires c κs = search needs
-
--- src/clock.rt:314:9
-destination-of-requires : tie.Need-destination-of-requires
-destination-of-requires c κs = search needs
-
--- src/clock.rt:315:8
 room-for-requires : tie.Need-room-for-requires
 room-for-requires c κs = search needs
 
--- src/clock.rt:316:9
+cpu-span-requires : tie.Need-cpu-span-requires
+cpu-span-requires c κs = search needs
+
 returns : tie.Need-returns
-returns c = span-none _ _ _ _ _ (sym (c .before .room-for .ensures) ∙ c .if1 .taken)
+returns c = none-answers _ _ (sym (c .before .before .room-for .ensures) ∙ c .before .if1 .taken) (c .cpu-span .ensures)
 
--- src/clock.rt:325:9
-clock-requires : tie.Need-clock-requires
-clock-requires c κs = roomy _ _ (λ e. c .if1 .left (c .before .room-for .ensures ∙ e))
+cpu-span-requires-2 : tie.Need-cpu-span-requires-2
+cpu-span-requires-2 c κs = search needs
 
--- src/clock.rt:310:1
 returns-2 : tie.Need-returns-2
-returns-2 c = rw (c .before .clock .ensures, c .before .before .before .before .destination-of .ensures, c .before .before .before .before .before .source-of .ensures) (span-one _ _ (λ e. c .before .before .if1 .left (c .before .before .before .room-for .ensures ∙ e)))
+returns-2 c = rw (← c .before .before .before .before .room-for .ensures) (idle-answers _ _ (not-true _ (c .before .if2 .taken)) (c .cpu-span2 .ensures))
+
+starts-finished-requires : tie.Need-starts-finished-requires
+starts-finished-requires c κs = search needs
+
+stop-requires : tie.Need-stop-requires
+stop-requires c κs = search needs
+
+cpu-span-requires-3 : tie.Need-cpu-span-requires-3
+cpu-span-requires-3 c κs = search needs
+
+returns-3 : tie.Need-returns-3
+returns-3 c =
+    rw
+    (← c .before .before .before .before .before .before .before .room-for .ensures)
+    (stop-answers _ _ (not-false _ (c .before .before .before .before .if2 .left)) (sym (c .before .before .before .starts-finished .ensures) ∙ c .before .before .if3 .taken) (positive (c .before .before .before .before .before .before .if1 .left)) (c .cpu-span3 .ensures ∙ ap (cpuSpan 1 _) (c .before .stop .ensures)))
+
+slot-span-requires : tie.Need-slot-span-requires
+slot-span-requires c κs = may-run _ _ _ (c .before .before .before .before .before .room-for .ensures) (c .before .before .before .before .if1 .left) (not-false _ (c .before .before .if2 .left)) (sym (c .before .starts-finished .ensures) ∙ c .if3 .left)
+
+returns-4 : tie.Need-returns-4
+returns-4 c = rw (← c .before .before .before .before .before .before .room-for .ensures) (c .slot-span .ensures)
 
 pub next-span-spec : {M : Type 1} → statement M
 next-span-spec =
     tie.close
     (tie.spec
-    source-of-requires
-    destination-of-requires
     room-for-requires
+    cpu-span-requires
     returns
-    clock-requires
-    returns-2)
+    cpu-span-requires-2
+    returns-2
+    starts-finished-requires
+    stop-requires
+    cpu-span-requires-3
+    returns-3
+    slot-span-requires
+    returns-4)

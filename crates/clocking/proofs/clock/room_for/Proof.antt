@@ -1,22 +1,19 @@
+-- Each branch is its choice.
+-- Assumes nothing.
 use Rattle.rules.specs.Choice.{pick}
 use Rattle.clocking.specs.Answers.{roomFor}
 use borrow.Author.Tests.{lt-ltb, le-ltb}
 use Rattle.clocking.proofs.clock.room_for.Statement.{statement}
 use Rattle.clocking.proofs.clock.room_for.Tie as tie
-use Rattle.clocking.proofs.clock.room_for.Reads as reads
-use Rattle.clocking.proofs.clock.room_for.Lts as lts
 
--- src/clock.rt:301:13
 returns : tie.Need-returns
 unfolding roomFor pick
 returns c = simp (lt-ltb _ _ (c .before .before .if1 .taken), lt-ltb _ _ (c .if2 .taken))
 
--- src/clock.rt:303:9
 returns-2 : tie.Need-returns-2
 unfolding roomFor pick
 returns-2 c = simp (lt-ltb _ _ (c .before .before .if1 .taken), le-ltb _ _ (c .if2 .left))
 
--- src/clock.rt:296:1
 returns-3 : tie.Need-returns-3
 unfolding roomFor pick
 returns-3 c = simp (le-ltb _ _ (c .if1 .left))

@@ -1,20 +1,17 @@
+-- Behind the last byte there is none.
+-- Assumes nothing.
 use mathlib.Core.Path.{sym}
 use lib.ListN.{List·getD-eq-default}
 use borrow.Author.Needs.{needs}
 use Rattle.clocking.proofs.transfer.byte_at.Statement.{statement}
 use Rattle.clocking.proofs.transfer.byte_at.Tie as tie
-use Rattle.clocking.proofs.transfer.byte_at.Reads as reads
-use Rattle.clocking.proofs.transfer.byte_at.Lts as lts
 
--- src/transfer.rt:20:16
 shared-slice-read-result : tie.Need-shared-slice-read-result
 shared-slice-read-result c = search needs
 
--- src/transfer.rt:20:9
 returns : tie.Need-returns
 returns c = search needs
 
--- src/transfer.rt:16:1
 returns-2 : tie.Need-returns-2
 returns-2 c = sym (List·getD-eq-default (c .before .args .bytes .now) 0 (c .if1 .left))
 

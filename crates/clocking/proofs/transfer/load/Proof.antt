@@ -1,31 +1,24 @@
+-- Each branch reads its buffer.
+-- Assumes nothing.
 use Rattle.rules.specs.Choice.{pick}
 use Rattle.rules.specs.Buffers.{byteAt}
 use borrow.Author.Needs.{needs}
 use Rattle.clocking.proofs.transfer.load.Statement.{statement}
 use Rattle.clocking.proofs.transfer.load.Tie as tie
-use Rattle.clocking.proofs.transfer.load.Reads as reads
-use Rattle.clocking.proofs.transfer.load.Lts as lts
-use Rattle.clocking.proofs.transfer.byte_at.Reads as byte-at-reads
-use Rattle.clocking.proofs.transfer.index.Reads as index-reads
 
--- src/transfer.rt:39:9
 index-requires : tie.Need-index-requires
 index-requires c κs = search needs
 
--- src/transfer.rt:41:9
 byte-at-requires : tie.Need-byte-at-requires
 byte-at-requires c κs = search needs
 
--- src/transfer.rt:41:9
 returns : tie.Need-returns
 unfolding byteAt pick
 returns c = simp (c .before .if1 .taken, c .before .before .index .ensures, c .byte-at .ensures)
 
--- src/transfer.rt:43:5
 byte-at-requires-2 : tie.Need-byte-at-requires-2
 byte-at-requires-2 c κs = search needs
 
--- src/transfer.rt:36:1
 returns-2 : tie.Need-returns-2
 unfolding byteAt pick
 returns-2 c = simp (c .before .if1 .left, c .before .before .index .ensures, c .byte-at2 .ensures)

@@ -1,52 +1,57 @@
+-- A byte that was stored is a byte that moved.
+-- Assumes nothing.
 use Rattle.clocking.proofs.Moving.{moved-latch, moved-byte}
 use borrow.Author.Needs.{needs}
 use Rattle.clocking.proofs.transfer.move_byte.Statement.{statement}
 use Rattle.clocking.proofs.transfer.move_byte.Tie as tie
-use Rattle.clocking.proofs.transfer.move_byte.Reads as reads
-use Rattle.clocking.proofs.transfer.move_byte.Lts as lts
-use Rattle.clocking.proofs.transfer.index.Reads as index-reads
-use Rattle.clocking.proofs.transfer.load.Reads as load-reads
-use Rattle.clocking.proofs.transfer.store.Reads as store-reads
 
--- src/transfer.rt:50:9
 load-requires : tie.Need-load-requires
 load-requires c κs = search needs
 
--- src/transfer.rt:51:9
 index-requires : tie.Need-index-requires
 index-requires c κs = search needs
 
--- src/transfer.rt:53:9
 store-requires : tie.Need-store-requires
 store-requires c κs = search needs
 
--- src/transfer.rt:54:9
 same-length : tie.Need-same-length
 same-length c = search needs
 
--- src/transfer.rt:54:9
 same-length-2 : tie.Need-same-length-2
 same-length-2 c = search needs
 
--- src/transfer.rt:54:9
 returns : tie.Need-returns
-returns c = moved-latch (c .before .before .before .before .before .before .before .before .before .before .before .args .memory .now) (c .before .before .before .before .before .before .before .before .before .before .before .args .latches .now) (c .before .before .before .before .before .before .before .before .before .before .before .args .from) (c .before .before .before .before .before .before .before .before .before .before .before .args .to) (c .before .before .before .before .before .index .ensures) (c .before .before .before .before .before .before .load .ensures) (c .before .before .before .before .if1 .taken) (c .before .before .store .ensures)
+returns c =
+    moved-latch
+    (c .before .before .before .before .before .before .before .before .before .before .before .args .memory .now)
+    (c .before .before .before .before .before .before .before .before .before .before .before .args .latches .now)
+    (c .before .before .before .before .before .before .before .before .before .before .before .args .from)
+    (c .before .before .before .before .before .before .before .before .before .before .before .args .to)
+    (c .before .before .before .before .before .index .ensures)
+    (c .before .before .before .before .before .before .load .ensures)
+    (c .before .before .before .before .if1 .taken)
+    (c .before .before .store .ensures)
 
--- src/transfer.rt:56:5
 store-requires-2 : tie.Need-store-requires-2
 store-requires-2 c κs = search needs
 
--- src/transfer.rt:47:1
 same-length-3 : tie.Need-same-length-3
 same-length-3 c = search needs
 
--- src/transfer.rt:47:1
 same-length-4 : tie.Need-same-length-4
 same-length-4 c = search needs
 
--- src/transfer.rt:47:1
 returns-2 : tie.Need-returns-2
-returns-2 c = moved-byte (c .before .before .before .before .before .before .before .before .before .before .before .args .memory .now) (c .before .before .before .before .before .before .before .before .before .before .before .args .latches .now) (c .before .before .before .before .before .before .before .before .before .before .before .args .from) (c .before .before .before .before .before .before .before .before .before .before .before .args .to) (c .before .before .before .before .before .index .ensures) (c .before .before .before .before .before .before .load .ensures) (c .before .before .before .before .if1 .left) (c .before .before .store2 .ensures)
+returns-2 c =
+    moved-byte
+    (c .before .before .before .before .before .before .before .before .before .before .before .args .memory .now)
+    (c .before .before .before .before .before .before .before .before .before .before .before .args .latches .now)
+    (c .before .before .before .before .before .before .before .before .before .before .before .args .from)
+    (c .before .before .before .before .before .before .before .before .before .before .before .args .to)
+    (c .before .before .before .before .before .index .ensures)
+    (c .before .before .before .before .before .before .load .ensures)
+    (c .before .before .before .before .if1 .left)
+    (c .before .before .store2 .ensures)
 
 pub move-byte-spec : {M : Type 1} → statement M
 move-byte-spec =

@@ -1,30 +1,24 @@
+-- Each branch is its choice.
+-- Assumes nothing.
 use Rattle.rules.specs.Choice.{pick}
 use Rattle.rules.specs.Spans.{buffersBetween}
 use borrow.Author.Needs.{needs}
 use Rattle.clocking.proofs.transfer.move_if.Statement.{statement}
 use Rattle.clocking.proofs.transfer.move_if.Tie as tie
-use Rattle.clocking.proofs.transfer.move_if.Reads as reads
-use Rattle.clocking.proofs.transfer.move_if.Lts as lts
-use Rattle.clocking.proofs.transfer.move_byte.Reads as move-byte-reads
 
--- src/transfer.rt:64:9
 move-byte-requires : tie.Need-move-byte-requires
 move-byte-requires c κs = search needs
 
--- src/transfer.rt:65:9
 same-length : tie.Need-same-length
 same-length c = search needs
 
--- src/transfer.rt:65:9
 same-length-2 : tie.Need-same-length-2
 same-length-2 c = search needs
 
--- src/transfer.rt:65:9
 returns : tie.Need-returns
 unfolding buffersBetween pick
 returns c = simp (c .before .before .before .before .before .before .before .if1 .taken, c .before .before .before .before .move-byte .ensures)
 
--- src/transfer.rt:60:1
 returns-2 : tie.Need-returns-2
 unfolding buffersBetween pick
 returns-2 c = simp (c .if1 .left)

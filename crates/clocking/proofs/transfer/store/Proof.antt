@@ -1,24 +1,20 @@
+-- Behind the last byte nothing is stored.
+-- Assumes nothing.
 use mathlib.Core.Path.{sym}
 use lib.Seq.{set-out}
 use borrow.Author.Needs.{needs}
 use Rattle.clocking.proofs.transfer.store.Statement.{statement}
 use Rattle.clocking.proofs.transfer.store.Tie as tie
-use Rattle.clocking.proofs.transfer.store.Reads as reads
-use Rattle.clocking.proofs.transfer.store.Lts as lts
 
--- src/transfer.rt:30:9
 slice-write-bytes : tie.Need-slice-write-bytes
 slice-write-bytes c = search needs
 
--- src/transfer.rt:31:9
 same-length : tie.Need-same-length
 same-length c = search needs
 
--- src/transfer.rt:31:9
 returns : tie.Need-returns
 returns c = search needs
 
--- src/transfer.rt:26:1
 returns-2 : tie.Need-returns-2
 returns-2 c = sym (set-out _ _ _ (c .if1 .left))
 
