@@ -3,31 +3,32 @@
 use Prim.Native.Nat.{ℕ}
 use mathlib.Core.List.{List}
 use Rattle.rules.specs.PowerOn.{powerOn, noClocks}
-use Rattle.rules.specs.World.{System}
+use Rattle.rules.specs.World.{System, system}
 use Rattle.rules.specs.Calls.{Reply, Answer}
+use Rattle.rules.specs.declared.Clocks.{Clocks}
+use Rattle.rules.specs.declared.Core.{Core}
 use Rattle.zxndma.specs.declared.Device.{Device}
 use Rattle.zxndma.specs.declared.WriteAnswer.{WriteAnswer}
 use Rattle.zxndma.specs.declared.ReadAnswer.{ReadAnswer}
 use Rattle.zxndma.specs.declared.GrantAnswer.{GrantAnswer}
 
+abbrev pub device : Core → Clocks → Device
+device c k = record { core = c; clocks = k }
+
 abbrev pub deviceAtPowerOn : Device
-deviceAtPowerOn = record { core = powerOn; clocks = noClocks }
+deviceAtPowerOn = device powerOn noClocks
 
 -- the answer to a write: the reply's number, core and clock counts
 abbrev pub writeAnswer : Reply → WriteAnswer
-writeAnswer r = record { number = r .number; device = record { core = r .core; clocks = r .clocks } }
+writeAnswer r = record { number = r .number; device = device (r .core) (r .clocks) }
 
 -- the answer to a read: the byte too
 abbrev pub readAnswer : Reply → ReadAnswer
-readAnswer r = record { number = r .number; byte = r .byte; device = record { core = r .core; clocks = r .clocks } }
+readAnswer r = record { number = r .number; byte = r .byte; device = device (r .core) (r .clocks) }
 
 -- a device beside the two buffers that a caller lends
 abbrev pub systemOf : Device → List ℕ → List ℕ → System (List ℕ)
-systemOf d m l =
-    record {
-      world = record { core = d .core; buffers = record { memory = m; latches = l } };
-      clocks = d .clocks;
-    }
+systemOf d m l = system (d .core) (record { memory = m; latches = l }) (d .clocks)
 
 -- the answer to a grant, with both buffers as the call leaves them
 abbrev pub grantAnswer : GrantAnswer → List ℕ → List ℕ → Answer (List ℕ)

@@ -1,16 +1,23 @@
 // The device: power on, port writes, port reads and grants of clocks. A device goes in by value and comes back with the
 // answer; a refused call hands it back as it came.
 ghost use mathlib.Core.Path.{_≡_};
+ghost use Prim.Native.Nat.{_*_, _-_, _<_};
 ghost use Rattle.rules.specs.Validity.{total};
 ghost use Rattle.rules.specs.Buffers.{flat};
 ghost use Rattle.rules.specs.World.{clocked};
 ghost use Rattle.rules.specs.Refusals.{grantRefusal};
 ghost use Rattle.rules.specs.Calls.{writeReply, readReply, grant};
-ghost use Rattle.clocking.specs.Answers.{borrowed};
-ghost use Rattle.zxndma.specs.Grants.{borrowedRefusal};
-ghost use Rattle.zxndma.specs.Answers.{deviceAtPowerOn, writeAnswer, readAnswer, systemOf, grantAnswer};
+ghost use Rattle.rules.specs.Parts.{withSlot};
+ghost use Rattle.rules.specs.Clock.{newSlot, kindAt};
+ghost use Rattle.rules.specs.Spans.{kindCode};
+ghost use Rattle.rules.specs.WholeSlots.{slotsWithin, slotsPassed};
+ghost use Rattle.clocking.specs.Answers.{borrowed, countedWithin};
+ghost use Rattle.zxndma.specs.Grants.{borrowedRefusal, Ready, Passed};
+ghost use Rattle.zxndma.specs.Answers.{device, deviceAtPowerOn, writeAnswer, readAnswer, systemOf, grantAnswer};
 use clocking::clock;
 use clocking::count;
+use clocking::slots;
+use clocking::stretch;
 use clocking::transfer;
 use registers::command;
 use registers::part;
@@ -24,6 +31,7 @@ use rules::Clocks;
 use rules::Control;
 use rules::Core;
 use rules::Port;
+use rules::Slot;
 
 // A zxnDMA: its core and its clock counts (document 01: books). Any content is a device; the calls refuse an invalid one.
 #[repr(C)]
@@ -59,6 +67,12 @@ pub struct GrantAnswer {
     pub number: u8,
     // The device afterwards.
     pub device: Device,
+}
+
+// A device on the way through a grant, and the clocks left.
+struct Progress {
+    device: Device,
+    left: u32,
 }
 
 impl Device {
@@ -188,26 +202,128 @@ impl Device {
         0
     }
 
-    // The clocks of an accepted grant, span after span.
+    // The clocks of an accepted grant: at once where no byte moves and no slot ends on them.
     fn spend(self, memory: &mut [u8], latches: &mut [u8], clocks: u32) -> Device
         requires { ⌜ grantRefusal flat (self .core) (total (self .clocks)) (borrowed (now memory) (now latches)) clocks ≡ 0 ⌝ }
         ensures { λ r. ⌜ systemOf r (now (memory .exit)) (now (latches .exit)) ≡ clocked flat clocks (systemOf self (now (memory .entry)) (now (latches .entry))) ⌝ }
     {
-        let mut core = self.core;
-        let mut counts = self.clocks;
-        let mut left = clocks;
-        while 0 < left {
-            let span = clock::next_span(core, left);
-            let from = span.from;
-            let to = span.to;
-            transfer::move_if(span.moves, memory, latches, from, to);
-            counts = count::add(span.kind, span.clocks, counts);
-            core = span.next;
-            left -= span.clocks;
+        if !self.core.enabled {
+            return self.idle(clocks);
         }
+        let core = self.core;
+        let wait = stretch::wait_within(clocks, core);
+        if wait.quiet {
+            let slot = wait.slot;
+            return self.wait(clocks, slot);
+        }
+        self.run(memory, latches, clocks)
+    }
+
+    // Clocks of a disabled device.
+    fn idle(self, clocks: u32) -> Device
+        ensures { λ r. ⌜ r ≡ device (self .core) (countedWithin 2 clocks (self .clocks)) ⌝ }
+    {
+        let core = self.core;
+        let counts = self.clocks;
+        let counted = count::add(clock::CPU, clocks, counts);
         Device {
             core,
-            clocks: counts,
+            clocks: counted,
+        }
+    }
+
+    // Clocks after which the slot is this one and nothing else has happened.
+    fn wait(self, clocks: u32, slot: Slot) -> Device
+        ensures { λ r. ⌜ r ≡ device (withSlot slot (self .core)) (countedWithin (kindCode (kindAt (slot .elapsed) (withSlot slot (self .core)))) clocks (self .clocks)) ⌝ }
+    {
+        let core = self.core;
+        let counts = self.clocks;
+        let mut next = core;
+        next.slot = slot;
+        let kind = clock::kind_at(slot.elapsed, next);
+        let counted = count::add(kind, clocks, counts);
+        Device {
+            core: next,
+            clocks: counted,
+        }
+    }
+
+    // The clocks of an accepted grant, turn after turn.
+    fn run(self, memory: &mut [u8], latches: &mut [u8], clocks: u32) -> Device
+        requires { ⌜ grantRefusal flat (self .core) (total (self .clocks)) (borrowed (now memory) (now latches)) clocks ≡ 0 ⌝ }
+        ensures { λ r. ⌜ systemOf r (now (memory .exit)) (now (latches .exit)) ≡ clocked flat clocks (systemOf self (now (memory .entry)) (now (latches .entry))) ⌝ }
+    {
+        let mut device = self;
+        let mut left = clocks;
+        while 0 < left {
+            let passed = device.turn(memory, latches, left);
+            device = passed.device;
+            left = passed.left;
+        }
+        device
+    }
+
+    // Some of the clocks left pass: whole slots where there are any, else a span.
+    fn turn(self, memory: &mut [u8], latches: &mut [u8], left: u32) -> Progress
+        requires { ⌜ Ready (self .core) (self .clocks) left ⌝ }
+        ensures { λ r. ⌜ Passed (systemOf self (now (memory .entry)) (now (latches .entry))) (systemOf (r .device) (now (memory .exit)) (now (latches .exit))) left (r .left) ⌝ }
+    {
+        let core = self.core;
+        let slots = slots::slots_within(core, left);
+        if 0 < slots {
+            return self.pass_slots(memory, latches, left, slots);
+        }
+        self.pass_span(memory, latches, left)
+    }
+
+    // All the whole slots that the clocks left have room for.
+    fn pass_slots(self, memory: &mut [u8], latches: &mut [u8], left: u32, slots: u32) -> Progress
+        requires { ⌜ Ready (self .core) (self .clocks) left × (0 < slots) × (slots ≡ slotsWithin (self .core) left) ⌝ }
+        ensures { λ r. ⌜ (systemOf (r .device) (now (memory .exit)) (now (latches .exit)) ≡ slotsPassed flat slots (systemOf self (now (memory .entry)) (now (latches .entry)))) × (r .left ≡ left - slots * newSlot (self .core) .length) ⌝ }
+    {
+        let core = self.core;
+        let counts = self.clocks;
+        let slot = clock::new_slot(core);
+        let spent = slots::clocks_of(slots, slot);
+        let rest = left - (spent as u32);
+        let counter = core.block.counter + slots;
+        let counted = slots::count_slots(slots, slot, counts);
+        let ports = slots::move_bytes(core, memory, latches, slots);
+        let a = ports.a;
+        let b = ports.b;
+        let mut moved = core;
+        moved.a = a;
+        moved.b = b;
+        moved.block.counter = counter;
+        moved.status.t = true;
+        let next = clock::end_slot(moved);
+        let device = Device {
+            core: next,
+            clocks: counted,
+        };
+        Progress { device, left: rest }
+    }
+
+    // The next span of the clocks left.
+    fn pass_span(self, memory: &mut [u8], latches: &mut [u8], left: u32) -> Progress
+        requires { ⌜ Ready (self .core) (self .clocks) left ⌝ }
+        ensures { λ r. ⌜ Passed (systemOf self (now (memory .entry)) (now (latches .entry))) (systemOf (r .device) (now (memory .exit)) (now (latches .exit))) left (r .left) ⌝ }
+    {
+        let core = self.core;
+        let counts = self.clocks;
+        let span = clock::next_span(core, left);
+        let from = span.from;
+        let to = span.to;
+        transfer::move_if(span.moves, memory, latches, from, to);
+        let counted = count::add(span.kind, span.clocks, counts);
+        let next = span.next;
+        let device = Device {
+            core: next,
+            clocks: counted,
+        };
+        Progress {
+            device,
+            left: left - span.clocks,
         }
     }
 }
