@@ -1,7 +1,8 @@
 //! Random sessions for the bench program: the same ones for the same seed.
 //!
 //! A module without a main: the programs that compare include it by
-//! `#[path = "generate.rs"] mod generate;`, so it is built with them.
+//! `#[path = "generate.rs"] mod generate;`, so it is built with them. Its
+//! random numbers and some of its choices serve `states.rs` for devices, too.
 
 // Each of these programs uses a part of it.
 #![allow(dead_code)]
@@ -109,7 +110,8 @@ impl Session {
         self.add(&[2, high, low]);
     }
 
-    /// No more clocks than the session has left: programs take them singly.
+    /// No more clocks than the session has left: the second program takes
+    /// them singly.
     pub fn grant(&mut self, clocks: u32) {
         let clocks = clocks.min(self.clocks_left);
         self.clocks_left -= clocks;
@@ -182,6 +184,38 @@ fn near(rng: &mut Rng, number: u32) -> u32 {
     (number + rng.below(3)).saturating_sub(1)
 }
 
+/// Where ports A and B begin, for a block whose last byte is so far from its
+/// first: where a pointer wraps, and at a distance at which one port comes to
+/// what the other has written, or has yet to write.
+pub fn places(rng: &mut Rng, far: u16) -> (u16, u16) {
+    let any = address(rng);
+    let within = rng.between(0, u32::from(far)) as u16;
+    let a = rng.pick(&[any, within, within.wrapping_neg()]);
+    let any = rng.word();
+    let distance = rng.pick(&[0, 1, 1, 1, 2, 255, far, any]);
+    let distance = rng.pick(&[distance, distance.wrapping_neg()]);
+    (a, a.wrapping_add(distance))
+}
+
+/// Whole slots for one grant, by those left of the block and those of a block:
+/// few, about the block's end, some or whole blocks more, or any up to the end.
+pub fn many_slots(rng: &mut Rng, left: u32, block: u32) -> u32 {
+    let block = block.max(1);
+    match rng.below(10) {
+        0 => rng.below(4),
+        1..=3 => near(rng, left),
+        4 => left + rng.below(block),
+        5 => left + block * rng.between(1, 2_000 / block + 2),
+        _ => rng.below(left + 1),
+    }
+}
+
+/// Clocks of a slot: none, about the end of its bus time or its own, or any.
+pub fn part_of_a_slot(rng: &mut Rng, bus: u32, slot: u32) -> u32 {
+    let any = rng.below(slot);
+    rng.pick(&[0, 0, 1, bus - 1, bus, bus + 1, slot - 1, any, any]).min(slot - 1)
+}
+
 // ---- Bytes written to the port -------------------------------------------
 
 const RESET: u8 = 0xC3;
@@ -191,6 +225,8 @@ const LOAD: u8 = 0xCF;
 const CONTINUE: u8 = 0xD3;
 const READ_MASK: u8 = 0xBB;
 const STATUS_READ: u8 = 0xBF;
+/// A command that does nothing.
+const NOTHING: u8 = 0xB3;
 
 /// WR3's bits that don't matter.
 const WR3_IGNORED: u8 = 0b0011_1100;
@@ -236,7 +272,7 @@ fn command(rng: &mut Rng) -> u8 {
         // Any of WR6, listed or not.
         10 => 0x83 | (rng.byte() & 0x7C),
         // The resets of timings and status, then those about reading.
-        _ => rng.pick(&[0xC7, 0xCB, 0x8B, STATUS_READ, 0xA7, 0xB3]),
+        _ => rng.pick(&[0xC7, 0xCB, 0x8B, STATUS_READ, 0xA7, NOTHING]),
     }
 }
 
@@ -269,6 +305,11 @@ impl Side {
             step: rng.pick(&[0, 1, 1, 1, 2, 3]),
             timing: if rng.chance(3, 4) { Some(rng.byte()) } else { None },
         }
+    }
+
+    /// With a timing byte.
+    fn timed(rng: &mut Rng) -> Side {
+        Side { timing: Some(rng.byte()), ..Side::random(rng) }
     }
 
     fn cycle(&self) -> u32 {
@@ -344,15 +385,63 @@ impl Plan {
         plan
     }
 
-    /// The most bytes there can be, or one less, in slots of 4 clocks.
+    /// The most bytes there can be, or one less, in slots of 4 clocks; a few
+    /// of 32.
     fn longest(rng: &mut Rng) -> Plan {
+        const MOST: [(bool, u16); 4] =
+            [(false, 0xFFFF), (true, 0xFFFE), (true, 0xFFFF), (true, 0xFFFF)];
         let mut plan = Plan::random(rng);
-        plan.zilog = rng.chance(3, 4);
-        plan.length = 0xFFFF;
+        (plan.zilog, plan.length) = rng.pick(&MOST);
         plan.a.timing = Some(2);
         plan.b.timing = Some(2);
-        plan.prescaler = None;
+        plan.prescaler = if rng.chance(1, 6) { Some(1) } else { None };
+        plan.place(rng);
         plan
+    }
+
+    /// Slots whose length is known: all that decides on it is written.
+    fn with_known_slots(rng: &mut Rng) -> Plan {
+        Plan {
+            a: Side::timed(rng),
+            b: Side::timed(rng),
+            prescaler: Some(rng.pick(&[0, 0, 1, 1, 1, 2, 55, 255])),
+            mode: rng.pick(&[1, 3, BURST, BURST, BURST]),
+            ..Plan::random(rng)
+        }
+    }
+
+    /// A block of up to thousands of bytes, fewer in long slots; or of so many
+    /// that its grants may not come to the end.
+    fn many_bytes(rng: &mut Rng) -> Plan {
+        let mut plan = Plan::with_known_slots(rng);
+        let most = (400_000 / plan.slot()).min(6_000);
+        let any = rng.word().max(1);
+        let some = rng.between(most / 8, most) as u16;
+        plan.length = rng.pick(&[any, some, some, some, some]);
+        plan.place(rng);
+        plan
+    }
+
+    /// A block of a few bytes that starts again and again.
+    fn restarting(rng: &mut Rng) -> Plan {
+        let mut plan = Plan::with_known_slots(rng);
+        let any = rng.between(4, 40) as u16;
+        let one_byte = u16::from(!plan.zilog);
+        plan.length = rng.pick(&[one_byte, 1, 2, 3, any]);
+        plan.auto_restart = true;
+        plan.place(rng);
+        plan
+    }
+
+    /// Has pointers wrap and blocks overlap, with any two steps.
+    fn place(&mut self, rng: &mut Rng) {
+        (self.a.address, self.b.address) = places(rng, self.length.max(1) - 1);
+        for side in [&mut self.a, &mut self.b] {
+            side.step = rng.pick(&[0, 0, 1, 1, 2, 3]);
+        }
+        if rng.chance(1, 2) {
+            self.b.io = self.a.io;
+        }
     }
 
     /// For another transfer in the same session: a new one, or the other way
@@ -376,8 +465,14 @@ impl Plan {
         }
     }
 
+    /// The bytes of a block.
+    fn count(&self) -> u32 {
+        u32::from(self.length) + u32::from(self.zilog)
+    }
+
+    /// The clocks of a block.
     fn block(&self) -> u32 {
-        self.slot() * (u32::from(self.length) + u32::from(self.zilog))
+        self.slot() * self.count()
     }
 
     /// About the block's clocks; of a long block only the start.
@@ -459,28 +554,68 @@ impl Plan {
                 let wanted = rng.below(16) as u8;
                 self.wr0(rng, wanted)
             }
-            4 => {
-                self.a = Side { address: self.a.address, ..Side::random(rng) };
-                self.wr1()
-            }
+            4 => self.change_a(Side::random(rng)),
             5 | 6 => {
-                self.b = Side { address: self.b.address, ..Side::random(rng) };
                 self.prescaler = rng.pick(&[None, Some(0), Some(1), Some(2), Some(3)]);
-                self.wr2()
+                self.change_b(Side::random(rng))
             }
             7 => {
-                self.mode = rng.below(4) as u8;
                 let wanted = rng.pick(&[0, 0, 1, 2, 3]);
-                self.wr4(rng, wanted)
+                self.change_mode(rng, wanted)
             }
-            8 | 9 => {
-                self.auto_restart = !self.auto_restart;
-                self.wr5(rng)
-            }
+            8 | 9 => self.switch_auto_restart(rng),
             10 => vec![selects_none(rng)],
             11 => read_mask(rng),
             12 => vec![STATUS_READ],
             _ => vec![command(rng)],
+        }
+    }
+
+    fn change_a(&mut self, side: Side) -> Vec<u8> {
+        self.a = Side { address: self.a.address, ..side };
+        self.wr1()
+    }
+
+    fn change_b(&mut self, side: Side) -> Vec<u8> {
+        self.b = Side { address: self.b.address, ..side };
+        self.wr2()
+    }
+
+    fn change_mode(&mut self, rng: &mut Rng, wanted: u8) -> Vec<u8> {
+        self.mode = rng.below(4) as u8;
+        self.wr4(rng, wanted)
+    }
+
+    fn switch_auto_restart(&mut self, rng: &mut Rng) -> Vec<u8> {
+        self.auto_restart = !self.auto_restart;
+        self.wr5(rng)
+    }
+
+    /// As `change`, but the transfer may go on and its slots stay known: other
+    /// registers for them, or another end of the block, by the device's counter.
+    fn change_course(&mut self, rng: &mut Rng, counter: u16) -> Vec<u8> {
+        match rng.below(10) {
+            0 => {
+                self.a_to_b = !self.a_to_b;
+                self.wr0(rng, 0)
+            }
+            1 | 2 => self.change_a(Side::timed(rng)),
+            3 | 4 => {
+                self.prescaler = Some(rng.pick(&[0, 1, 2, 3]));
+                self.change_b(Side::timed(rng))
+            }
+            5 => self.change_mode(rng, 0),
+            6 | 7 => self.switch_auto_restart(rng),
+            8 => {
+                let further = rng.pick(&[0, 1, 2, 300, 3_000]);
+                self.length = rng.pick(&[0, counter.wrapping_add(further)]);
+                self.wr0(rng, WR0_LENGTH)
+            }
+            _ => {
+                // Only the port, and by it the mode.
+                self.zilog = !self.zilog;
+                vec![NOTHING]
+            }
         }
     }
 }
@@ -544,6 +679,27 @@ fn fill_memory(rng: &mut Rng, session: &mut Session, plan: &Plan) {
     session.memory(start.wrapping_sub(back), &rng.bytes(count));
 }
 
+/// Bytes into memory wherever the source comes to in a block; into latches, if
+/// it is I/O, by a transfer of them.
+fn fill_source(rng: &mut Rng, session: &mut Session, plan: &Plan) {
+    let source = plan.source();
+    let length = if source.step > 1 { 0 } else { plan.length };
+    let back = if source.step == 0 { length } else { 0 };
+    let first = source.address.wrapping_sub(back);
+    for place in (0..=length).step_by(255) {
+        let count = u32::from(length - place) + 1;
+        session.memory(first.wrapping_add(place), &rng.bytes(count.min(255)));
+    }
+    if source.io {
+        let a = Side { address: first, io: false, step: 1, timing: Some(2) };
+        let b = Side { io: true, ..a };
+        let mut copy = Plan { zilog: true, a_to_b: true, length, a, b, ..*plan };
+        (copy.prescaler, copy.auto_restart) = (Some(0), false);
+        program(rng, session, &mut copy, false);
+        session.grant(copy.block());
+    }
+}
+
 /// Clocks for one grant, most of them about the ends of the plan's slots.
 fn clocks(rng: &mut Rng, plan: &Plan) -> u32 {
     let slot = plan.slot();
@@ -574,6 +730,80 @@ fn grant_in_parts(rng: &mut Rng, session: &mut Session, total: u32) {
         }
     }
     session.grant(left);
+}
+
+/// How far a transfer has come, as far as its plan is right.
+struct Progress {
+    /// Slots of the block that have begun; each moves a byte.
+    begun: u32,
+    /// The clocks that the running slot has left; 0 between two slots.
+    rest: u32,
+}
+
+impl Progress {
+    /// The rest of the running slot, whole slots, and some clocks of one more.
+    fn grant(&mut self, session: &mut Session, plan: &Plan, slots: u32, over: u32) {
+        session.grant(self.rest + slots * plan.slot() + over);
+        self.begun += slots + u32::from(over > 0);
+        self.rest = if over > 0 { plan.slot() - over } else { 0 };
+        if plan.auto_restart {
+            self.begun %= plan.count().max(1);
+        }
+    }
+
+    /// The block has ended, and the device is disabled.
+    fn is_over(&self, plan: &Plan) -> bool {
+        let running = u32::from(self.rest > 0);
+        !plan.auto_restart && self.begun >= plan.count() + running
+    }
+}
+
+/// All seven registers, if the bus is free.
+fn read_all(rng: &mut Rng, session: &mut Session, plan: &mut Plan) {
+    write_all(rng, session, plan, &[READ_MASK, 0x7F]);
+    for _ in 0..7 {
+        session.read(dma_port(rng, plan.zilog));
+    }
+}
+
+/// In a wait: a change after which the transfer goes on, or any.
+fn steer(rng: &mut Rng, session: &mut Session, plan: &mut Plan, progress: &mut Progress) {
+    match rng.below(8) {
+        0 => write_change(rng, session, plan),
+        1 => {
+            let byte = rng.pick(&[LOAD, CONTINUE]);
+            write_all(rng, session, plan, &[byte]);
+            progress.begun = 0;
+        }
+        _ => {
+            let bytes = plan.change_course(rng, progress.begun as u16);
+            write_all(rng, session, plan, &bytes);
+        }
+    }
+}
+
+/// Some grants of many slots, each of them cut anywhere in a slot. The host
+/// looks at the registers; where the cut is in a burst wait, it may change them.
+/// After the block's end it goes on with another.
+fn run_in_cuts(rng: &mut Rng, session: &mut Session, plan: &mut Plan, mut progress: Progress) {
+    for _ in 0..rng.between(2, 8) {
+        let (bus, slot, count) = (plan.bus_time(), plan.slot(), plan.count());
+        let left = count.saturating_sub(progress.begun);
+        let slots = many_slots(rng, left, count).min(250_000 / slot);
+        let over = part_of_a_slot(rng, bus, slot);
+        progress.grant(session, plan, slots, over);
+        read_all(rng, session, plan);
+        if progress.is_over(plan) {
+            let pointers = rng.pick(&[LOAD, CONTINUE]);
+            write_all(rng, session, plan, &[pointers, ENABLE]);
+            progress = Progress { begun: 0, rest: 0 };
+        } else if plan.mode == BURST && over >= bus {
+            for _ in 0..rng.below(4) {
+                steer(rng, session, plan, &mut progress);
+            }
+        }
+    }
+    read_all(rng, session, plan);
 }
 
 /// The sequence, as it should be or varied.
@@ -627,7 +857,7 @@ fn act_often(rng: &mut Rng, session: &mut Session, plan: &mut Plan, most: u32) {
 
 // ---- Whole sessions ------------------------------------------------------
 
-/// Programs take the clocks one by one: few sessions have many.
+/// The second program takes the clocks one by one: few sessions have many.
 fn clocks_of_a_session(rng: &mut Rng) -> u32 {
     if rng.chance(1, 30) {
         200_000
@@ -677,13 +907,48 @@ fn burst_waits(rng: &mut Rng) -> Session {
     session
 }
 
-/// The longest block to its end, or about there, and on from it.
-fn longest_block(rng: &mut Rng) -> Session {
-    let mut session = Session::new(600_000);
+/// Long blocks, or many short ones, in a few grants each.
+fn long_runs(rng: &mut Rng) -> Session {
+    let mut session = Session::new(1_000_000);
+    for _ in 0..rng.between(1, 3) {
+        let short = rng.chance(1, 3);
+        let mut plan = if short { Plan::restarting(rng) } else { Plan::many_bytes(rng) };
+        fill_source(rng, &mut session, &plan);
+        program(rng, &mut session, &mut plan, false);
+        run_in_cuts(rng, &mut session, &mut plan, Progress { begun: 0, rest: 0 });
+    }
+    session
+}
+
+/// A block to its end, and on from there without Load, in slots with waits:
+/// the counter comes to its limit, and the mode decides where that is.
+fn counter_runs_on(rng: &mut Rng) -> Session {
+    let mut session = Session::new(1_000_000);
     let mut plan = Plan::longest(rng);
-    fill_memory(rng, &mut session, &plan);
+    plan.length -= rng.below(500) as u16;
+    (plan.prescaler, plan.auto_restart) = (Some(0), false);
+    fill_source(rng, &mut session, &plan);
     program(rng, &mut session, &mut plan, false);
-    let total = near(rng, plan.block());
+    session.grant(plan.block() + rng.below(3));
+    let begun = plan.count();
+    plan.length = rng.pick(&[0xFFFE, 0xFFFF]);
+    (plan.prescaler, plan.mode) = (Some(rng.pick(&[1, 2])), BURST);
+    plan.auto_restart = rng.chance(1, 4);
+    let registers = [plan.wr0(rng, WR0_LENGTH), plan.wr2(), plan.wr4(rng, 0), plan.wr5(rng)];
+    write_all(rng, &mut session, &mut plan, &registers.concat());
+    write_all(rng, &mut session, &mut plan, &[ENABLE]);
+    run_in_cuts(rng, &mut session, &mut plan, Progress { begun, rest: 0 });
+    session
+}
+
+/// The longest block to its end, or about there, and on from it; or two.
+fn longest_block(rng: &mut Rng) -> Session {
+    let mut session = Session::new(4_000_000);
+    let mut plan = Plan::longest(rng);
+    fill_source(rng, &mut session, &plan);
+    program(rng, &mut session, &mut plan, false);
+    let blocks = rng.pick(&[1, 1, 2]);
+    let total = near(rng, blocks * plan.block());
     grant_in_parts(rng, &mut session, total);
     act_often(rng, &mut session, &mut plan, 40);
     read_some(rng, &mut session);
@@ -725,8 +990,10 @@ fn faultless(rng: &mut Rng) -> Session {
     match rng.below(1_000) {
         0..=9 => longest_block(rng),
         10..=14 => long(rng),
-        15..=149 => noise(rng),
-        150..=499 => burst_waits(rng),
+        15..=24 => counter_runs_on(rng),
+        25..=124 => long_runs(rng),
+        125..=249 => noise(rng),
+        250..=564 => burst_waits(rng),
         _ => transfers(rng),
     }
 }
@@ -823,11 +1090,28 @@ fn faulty(rng: &mut Rng) -> Vec<u8> {
     bytes
 }
 
-/// One session. Its clocks are mostly below 50,000, rarely some 600,000.
+/// One session. Its clocks are mostly below 50,000, in some up to a million,
+/// rarely some millions.
 pub fn session(rng: &mut Rng) -> Vec<u8> {
     match rng.below(100) {
         0..=2 => wrong_version(rng),
         3..=16 => faulty(rng),
         _ => faultless(rng).into_bytes(),
     }
+}
+
+// ---- Bytes for measuring -------------------------------------------------
+
+/// Bytes to be written: every register with all parameters and every command,
+/// other numbers in each round. The Enable finds the length 0: else the next
+/// write would be refused.
+pub fn register_bytes(count: usize) -> impl Iterator<Item = u8> {
+    let round = |n: u32| {
+        let [_, high, middle, low] = (n * 7).to_be_bytes();
+        let registers = [0x7D, low, middle, low, high, 0x54, low, 0x50, 0x22, low];
+        let more = [0xCD, middle, low, 0xA2, 0xCF, 0xD3, 0xBB, low, 0x8B, 0xBF, 0xA7, 0xB3];
+        let ending = [0x65, 0x00, 0x00, 0x87, 0x83, 0xC7, 0xCB, 0xC3];
+        registers.into_iter().chain(more).chain(ending)
+    };
+    (0..).flat_map(round).take(count)
 }

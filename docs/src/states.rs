@@ -2,12 +2,15 @@
 //! content, with any port, byte, clocks and buffers, and on sessions. Every
 //! answer is compared whole: number, byte, each field of the device, and
 //! after a grant both buffers, in a session after every record. The sessions
-//! of a seed are those that `compare.rs` makes of it.
+//! of a seed are those that `compare.rs` makes of it. What the grants came to
+//! is counted.
 
 #![deny(unsafe_code)]
 
 #[path = "generate.rs"]
 mod generate;
+#[path = "grants.rs"]
+mod grants;
 #[path = "reference.rs"]
 mod reference;
 #[path = "stored.rs"]
@@ -16,14 +19,20 @@ mod stored;
 mod zxndma;
 
 use generate::Rng;
+use grants::{Grant, Grants};
 use reference::model::{self, SIZE};
 use std::process::ExitCode;
 use zxndma::{Block, Clocks, Control, Core, Device, Pending, Port, Readback, Slot, Status};
 
+/// For each seed, if nothing else is asked for.
+const CALLS: u64 = 1_000_000;
+const SESSIONS: u64 = 5_000;
+
 const USAGE: &str = "usage: states [--calls N] [--sessions N] [--seed N]... [FILE.hex]...
 Compares the linked library with the second program, for each seed by N calls
 on made devices (1000000) and N made sessions (5000), and on the stored sessions.
-Fails at the first difference, or if some refusal never occurred.";
+Fails at the first difference, or if some refusal never occurred, or, with as
+many calls or sessions as these, some case of a long grant.";
 
 // ---- Both sides ----------------------------------------------------------
 
@@ -230,11 +239,18 @@ struct Bench {
     library: Buffers,
     model: Buffers,
     counts: Counts,
+    /// What the accepted grants came to.
+    grants: Grants,
 }
 
 impl Bench {
     fn new() -> Bench {
-        Bench { library: Buffers::zero(), model: Buffers::zero(), counts: Counts::default() }
+        Bench {
+            library: Buffers::zero(),
+            model: Buffers::zero(),
+            counts: Counts::default(),
+            grants: Grants::of_sessions(),
+        }
     }
 
     fn clear(&mut self) {
@@ -269,6 +285,9 @@ impl Bench {
             return Err(self.difference(device, call, &library, &model));
         }
         self.counts.of(call)[usize::from(model.number)] += 1;
+        if let (Call::Grant { clocks, .. }, 0) = (call, model.number) {
+            self.grants.count(&Grant::new(model_of(device), model.device, clocks));
+        }
         Ok((library.number, after))
     }
 
@@ -443,6 +462,10 @@ fn valid_clocks(rng: &mut Rng) -> Clocks {
         4 => u64::from(rng.below(1_000_000)),
         _ => rng.next(),
     };
+    clocks_of(rng, sum)
+}
+
+fn clocks_of(rng: &mut Rng, sum: u64) -> Clocks {
     let bus = part(rng, sum);
     let held = part(rng, sum - bus);
     Clocks { bus, held, cpu: sum - bus - held }
@@ -495,6 +518,62 @@ fn valid_device(rng: &mut Rng) -> Device {
     Device { core, clocks: valid_clocks(rng) }
 }
 
+/// An enabled device with many slots to come: of a long block, of a short one
+/// that starts again, or of one that takes the counter to its limit.
+fn busy_device(rng: &mut Rng) -> Device {
+    let mut device = valid_device(rng);
+    let core = &mut device.core;
+    core.enabled = true;
+    core.control.prescaler = rng.pick(&[0, 0, 0, 0, 1, 1, 2, 3, 55, 255]);
+    core.block.length = match rng.below(8) {
+        0..=2 => rng.between(100, 20_000) as u16,
+        3 | 4 => rng.between(1, 4) as u16,
+        5 | 6 => rng.pick(&[0xFFFE, 0xFFFF]),
+        _ => rng.word().max(1),
+    };
+    let count = block_count(&core.block);
+    let left = match rng.below(3) {
+        0 => rng.between(1, count),
+        1 => rng.between(1, count.min(3_000)),
+        _ => count,
+    };
+    core.block.counter = count - left;
+    if core.slot.elapsed > core.slot.bus && rng.chance(1, 4) {
+        // In a wait after which the block is over.
+        core.block.counter = (count + rng.below(3)).min(65_536);
+    }
+    core.control.restart = rng.chance(if count < 100 { 3 } else { 1 }, 4);
+    place_ports(rng, core);
+    device
+}
+
+/// Has pointers wrap and blocks overlap, also where a block starts again, with
+/// any two steps.
+fn place_ports(rng: &mut Rng, core: &mut Core) {
+    let far = core.block.length - 1;
+    (core.a.pointer, core.b.pointer) = generate::places(rng, far);
+    (core.a.address, core.b.address) = generate::places(rng, far);
+    for port in [&mut core.a, &mut core.b] {
+        let any = byte(rng);
+        port.step = rng.pick(&[0, 0, 0, 1, 1, 1, 2, 3, any]);
+    }
+    if rng.chance(1, 2) {
+        core.b.io = core.a.io;
+    }
+}
+
+/// A device that goes on for any number of clocks: disabled, or with a block
+/// that starts again and again.
+fn endless_device(rng: &mut Rng) -> Device {
+    let mut device = busy_device(rng);
+    device.core.control.restart = true;
+    if rng.chance(1, 2) {
+        device.core.enabled = false;
+        device.core.slot = NO_SLOT;
+    }
+    device
+}
+
 /// A valid device, one with a few fields changed, one with any content, or
 /// the one that the last accepted call left.
 fn made_device(rng: &mut Rng, last: Device) -> Device {
@@ -542,7 +621,7 @@ fn made_length(rng: &mut Rng) -> usize {
     rng.pick(&[0, 1, 255, 256, SIZE - 1, SIZE + 1, LONGEST, any])
 }
 
-/// Both sides take every clock: an accepted grant has few of them.
+/// The second program takes every clock: an accepted grant has few of them.
 fn made_clocks(rng: &mut Rng, device: Device, room: u128) -> u32 {
     let slot = device.core.slot;
     if room < u128::from(u32::MAX) && rng.chance(1, 3) {
@@ -586,8 +665,59 @@ fn made_call(rng: &mut Rng, device: Device) -> Call {
     }
 }
 
-/// New buffers after so many calls.
-const CALLS_OF_A_FILL: u64 = 4_096;
+/// The rest of the running slot, whole slots and a part of one more; for a
+/// disabled device any clocks. The whole slots take `most` at most.
+fn many_clocks(rng: &mut Rng, device: &model::Device, most: u32) -> u32 {
+    if !device.enabled {
+        return rng.below(most);
+    }
+    let (bus, slot, running) = (grants::bus_time(device), grants::slot(device), device.slot);
+    let begun = device.counter + u32::from(running.elapsed < running.bus);
+    let count = model::block_count(device);
+    let slots = generate::many_slots(rng, count.saturating_sub(begun), count).min(most / slot);
+    let rest = u32::from(running.length - running.elapsed);
+    rest + slots * slot + generate::part_of_a_slot(rng, bus, slot)
+}
+
+/// A device and many clocks for it; a few times so many that the second
+/// program needs long for them.
+fn device_and_clocks(rng: &mut Rng, last: Device) -> (Device, u32) {
+    if rng.chance(1, 1_500) {
+        return (endless_device(rng), rng.between(4_000_000, 5_000_000));
+    }
+    let device = match rng.below(8) {
+        0 => last,
+        1 => valid_device(rng),
+        _ => busy_device(rng),
+    };
+    let most = rng.pick(&[3_000, 10_000, 10_000, 30_000, 30_000, 100_000, 100_000, 400_000]);
+    (device, many_clocks(rng, &model_of(device), most))
+}
+
+/// A grant of many clocks. Often the clock counts have just the room for them,
+/// or one too little, or pass 32 bits.
+fn long_grant(rng: &mut Rng, last: Device) -> (Device, Call) {
+    let (mut device, clocks) = device_and_clocks(rng, last);
+    let room = u64::MAX - u64::from(clocks);
+    let below_32_bits = u64::from(u32::MAX - clocks / 2);
+    let any = rng.next() % room;
+    let sum = rng.pick(&[0, any, below_32_bits, room, room, room.saturating_add(1)]);
+    device.clocks = clocks_of(rng, sum);
+    (device, Call::Grant { memory: SIZE, latches: SIZE, clocks })
+}
+
+/// A call on a device; a few of them are long grants.
+fn device_and_call(rng: &mut Rng, last: Device) -> (Device, Call) {
+    if rng.chance(1, 30) {
+        return long_grant(rng, last);
+    }
+    let device = made_device(rng, last);
+    (device, made_call(rng, device))
+}
+
+/// New buffers after so many calls: before long grants have spread the same
+/// bytes over them.
+const CALLS_OF_A_FILL: u64 = 512;
 
 fn made_calls(bench: &mut Bench, seed: u64, calls: u64) -> Result<(), String> {
     let mut rng = Rng::new(seed);
@@ -596,8 +726,7 @@ fn made_calls(bench: &mut Bench, seed: u64, calls: u64) -> Result<(), String> {
         if number % CALLS_OF_A_FILL == 0 {
             bench.fill(&mut rng);
         }
-        let device = made_device(&mut rng, last);
-        let call = made_call(&mut rng, device);
+        let (device, call) = device_and_call(&mut rng, last);
         let place = |case| format!("seed {}, call {}: {}", seed, number, case);
         let (answered, after) = bench.call(device, call).map_err(place)?;
         if answered == 0 && !matches!(call, Call::Valid) {
@@ -669,7 +798,7 @@ struct Options {
 /// The options, or what is wrong with them.
 fn options(mut words: impl Iterator<Item = String>) -> Result<Options, String> {
     let mut options =
-        Options { calls: 1_000_000, sessions: 5_000, seeds: Vec::new(), paths: Vec::new() };
+        Options { calls: CALLS, sessions: SESSIONS, seeds: Vec::new(), paths: Vec::new() };
     while let Some(word) = words.next() {
         if !word.starts_with("--") {
             options.paths.push(word);
@@ -690,17 +819,36 @@ fn options(mut words: impl Iterator<Item = String>) -> Result<Options, String> {
     Ok(options)
 }
 
+/// Prints what the grants came to. Where there were enough of them, none of it
+/// may be missing.
+fn counted(of: &str, grants: &Grants, enough: bool) -> Result<(), String> {
+    println!("{}", grants.summary(of));
+    match grants.missing() {
+        Some(missing) if enough => Err(format!("no grant of {}: {}", of, missing)),
+        _ => Ok(()),
+    }
+}
+
 fn compare(options: &Options) -> Result<String, String> {
+    let Options { calls, sessions, seeds, paths } = options;
     let mut bench = Bench::new();
-    for path in &options.paths {
+    for path in paths {
         stored_session(&mut bench, path)?;
     }
-    println!("states: {} stored sessions", options.paths.len());
-    for &seed in &options.seeds {
-        println!("states: seed {}: {} calls, {} sessions", seed, options.calls, options.sessions);
-        made_calls(&mut bench, seed, options.calls)?;
-        made_sessions(&mut bench, seed, options.sessions)?;
+    println!("states: {} stored sessions", paths.len());
+    bench.grants = Grants::of_devices();
+    for &seed in seeds {
+        println!("states: seed {}: {} calls", seed, calls);
+        made_calls(&mut bench, seed, *calls)?;
     }
+    counted("devices", &bench.grants, *calls >= CALLS)?;
+    // Without the stored ones: what is made has to come to everything alone.
+    bench.grants = Grants::of_sessions();
+    for &seed in seeds {
+        println!("states: seed {}: {} sessions", seed, sessions);
+        made_sessions(&mut bench, seed, *sessions)?;
+    }
+    counted("sessions", &bench.grants, *sessions >= SESSIONS)?;
     bench.counts.summary()
 }
 

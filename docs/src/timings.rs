@@ -66,18 +66,9 @@ fn reads() -> Session {
     session
 }
 
-/// Every register with all parameters and every command, other numbers in
-/// each round. The Enable finds the length 0: else the next write is refused.
 fn writes() -> Session {
-    let round = |n: u32| {
-        let [_, high, middle, low] = (n * 7).to_be_bytes();
-        let registers = [0x7D, low, middle, low, high, 0x54, low, 0x50, 0x22, low];
-        let more = [0xCD, middle, low, 0xA2, 0xCF, 0xD3, 0xBB, low, 0x8B, 0xBF, 0xA7, 0xB3];
-        let ending = [0x65, 0x00, 0x00, 0x87, 0x83, 0xC7, 0xCB, 0xC3];
-        registers.into_iter().chain(more).chain(ending)
-    };
     let mut session = Session::new(0);
-    write_all(&mut session, (0..).flat_map(round).take(MILLION));
+    write_all(&mut session, generate::register_bytes(MILLION));
     session
 }
 
