@@ -3,8 +3,7 @@
 //! block after block, then into the slot after them. What it costs depends on
 //! the bytes that it moves and not on its clocks.
 //!
-//! Every byte is read and written by itself and in order, however the blocks
-//! overlap. The states are valid ones: an enabled device whose next byte has
+//! Every byte moves, and in order, however the blocks overlap. The states are valid ones: an enabled device whose next byte has
 //! not moved has not finished its block.
 //!
 //! A module without a main: a program includes it beside `stepping.rs`, as
@@ -125,10 +124,10 @@ fn move_blocks(state: &mut State, memory: &mut Bytes, latches: &mut Bytes, slots
     }
 }
 
-/// The compiler makes a loop of its own for each way to move a byte. Pointers
-/// and counter are in registers, and 16-bit addresses need no check. The steps
-/// are numbers that it does not know: for a destination known to be fixed it
-/// would leave out every byte but the last.
+/// The compiler makes loops of their own for each way to move a byte. Pointers
+/// and counter are in registers, and 16-bit addresses need no check. A fixed
+/// step is a number that it does not know: for a destination known to be fixed
+/// it would leave out every byte but the last, and a port takes them all.
 fn run_blocks(state: &mut State, slots: u32, mut move_byte: impl FnMut(usize, usize)) -> u32 {
     let (count, restart) = (state.block_count(), state.control.restart);
     let (mut counter, mut left) = (state.block.counter, slots);
@@ -138,10 +137,14 @@ fn run_blocks(state: &mut State, slots: u32, mut move_byte: impl FnMut(usize, us
     let mut ended = false;
     loop {
         let run = left.min(count - counter);
-        for _ in 0..run {
-            move_byte(usize::from(from), usize::from(to));
-            from = from.wrapping_add(from_step);
-            to = to.wrapping_add(to_step);
+        if from_step == 1 && to_step == 1 && run >= LONG {
+            (from, to) = move_up(from, to, run, &mut move_byte);
+        } else {
+            for _ in 0..run {
+                move_byte(usize::from(from), usize::from(to));
+                from = from.wrapping_add(from_step);
+                to = to.wrapping_add(to_step);
+            }
         }
         left -= run;
         counter += run;
@@ -160,4 +163,26 @@ fn run_blocks(state: &mut State, slots: u32, mut move_byte: impl FnMut(usize, us
     state.e &= !ended;
     state.enabled = restart || !ended;
     slots - left
+}
+
+/// From so many bytes on it pays to look for the places where pointers wrap.
+const LONG: u32 = 32;
+
+/// Both pointers go up, in parts in which neither wraps. Bytes move in order
+/// here too; where source and destination do not overlap, the compiler takes
+/// several at once. (Downwards that was slower than the plain loop.)
+fn move_up(from: u16, to: u16, run: u32, move_byte: &mut impl FnMut(usize, usize)) -> (u16, u16) {
+    let (mut from, mut to, mut left) = (from, to, run as usize);
+    while left > 0 {
+        let (first, second) = (usize::from(from), usize::from(to));
+        let part = left.min(65_536 - first).min(65_536 - second);
+        for k in 0..part {
+            move_byte(first + k, second + k);
+        }
+        // A part of 65,536 bytes leaves both where they are.
+        from = from.wrapping_add(part as u16);
+        to = to.wrapping_add(part as u16);
+        left -= part;
+    }
+    (from, to)
 }
