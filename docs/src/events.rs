@@ -3,8 +3,9 @@
 //! block after block, then into the slot after them. What it costs depends on
 //! the bytes that it moves and not on its clocks.
 //!
-//! Every byte moves, and in order, however the blocks overlap. The states are valid ones: an enabled device whose next byte has
-//! not moved has not finished its block.
+//! Every byte moves, and in order, however the blocks overlap. The states are
+//! valid ones: an enabled device whose next byte has not moved has not finished
+//! its block.
 //!
 //! A module without a main: a program includes it beside `stepping.rs`, as
 //! `measure.rs` does.
