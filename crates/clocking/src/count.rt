@@ -2,7 +2,7 @@
 ghost use mathlib.Core.Path.{_≡_};
 ghost use Rattle.clocking.specs.Answers.{added, countedWithin};
 use crate::clock;
-use registers::valid;
+use parts::valid;
 use rules::Clocks;
 
 fn wide(x: u32) -> u64

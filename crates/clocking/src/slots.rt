@@ -8,7 +8,7 @@ use crate::clock;
 use crate::count;
 use crate::stretch;
 use crate::transfer;
-use registers::block;
+use parts::block;
 use rules::Clocks;
 use rules::Core;
 use rules::Port;

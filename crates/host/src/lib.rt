@@ -4,7 +4,7 @@ ghost use Rattle.rules.specs.Validity.{valid, total};
 ghost use Rattle.rules.specs.Buffers.{flat};
 ghost use Rattle.rules.specs.Calls.{writeReply, readReply, grant};
 ghost use Rattle.zxndma.specs.Answers.{deviceAtPowerOn, writeAnswer, readAnswer, systemOf, grantAnswer};
-use registers::refusal;
+use parts::refusal;
 use zxndma::Device;
 use zxndma::GrantAnswer;
 use zxndma::ReadAnswer;

@@ -5,10 +5,10 @@ ghost use Rattle.rules.specs.Parts.{withA, withB, withControl, withPending, wit
 ghost use Rattle.rules.specs.Ports.{resetTiming};
 ghost use Rattle.rules.specs.Pending.{maskAsked};
 ghost use Rattle.rules.specs.PowerOn.{statusAtReset, readbackAtReset};
-use crate::block;
-use crate::part;
-use crate::pending;
-use crate::port;
+use parts::block;
+use parts::part;
+use parts::pending;
+use parts::port;
 use rules::Core;
 use rules::Readback;
 use rules::Status;

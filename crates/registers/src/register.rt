@@ -5,9 +5,9 @@ ghost use Rattle.rules.specs.Parts.{withA, withB, withBlock, withLength, withCo
 ghost use Rattle.rules.specs.Ports.{timed, addressedLow, addressedHigh};
 ghost use Rattle.rules.specs.Registers.{isWR0, isWR1, isWR2, isWR3, isWR4, isWR5, isWR6, wr0, wr1, wr2, wr3, wr4, wr5, register, bTimed, masked, parameter, takeParameter, inMode, effect, written};
 use crate::command;
-use crate::part;
-use crate::pending;
-use crate::port;
+use parts::part;
+use parts::pending;
+use parts::port;
 use rules::Core;
 
 // A to B or B to A, and WR0's parameters.

@@ -1,35 +1,33 @@
 -- Demand 3. The run and the history agree entry by entry: the same world, the counts as noted, the sum of the counts as the
--- history's sum; and the bytes noted balance the counter, clock by clock and write by write. Grants split because n clocks
--- keep a valid device valid and clocks of m + n are n after m.
+-- history's sum; and the bytes noted balance the counter, clock by clock and write by write.
 -- Assumes nothing.
 use Prim.Native.Nat.{ℕ, zero, suc, _+_}
 use native.Mathlib.Omega.{arith}
 use native.Mathlib.Nat.{add-zero, zero-add, add-assoc}
 use mathlib.Core.Path.{_≡_, refl, sym, _∙_, ap, subst}
-use mathlib.Core.Bool.{Bool, true, false, not}
+use mathlib.Core.Bool.{Bool, true, false}
 use mathlib.Core.List.{List, [], _∷_}
 use lib.Dec.{eqb}
-use lib.ListN.{length, set, length-set}
 use borrow.Author.Tests.{eqb-true, eqb-false, ne-eqb}
-use Rattle.rules.specs.Choice.{pick, test, firstHit}
+use Rattle.rules.specs.Choice.{pick}
 use Rattle.rules.specs.Validity.{total}
-use Rattle.rules.specs.Facts.{InRange}
 use Rattle.rules.specs.Clock.{Kind, busClock, heldClock, cpuClock, counted, clockOf}
 use Rattle.rules.specs.Registers.{written}
 use Rattle.rules.specs.Readback.{readByte}
-use Rattle.rules.specs.Buffers.{Store, flat, Buffers, put}
-use Rattle.rules.specs.World.{World, System, Note, buffersAfter, step, note, stepCounted, clocked}
+use Rattle.rules.specs.Buffers.{Store, Buffers}
+use Rattle.rules.specs.World.{World, System, Note, step, note, stepCounted, clocked}
 use Rattle.rules.specs.Refusals.{accessRefusal, grantRefusal}
 use Rattle.rules.specs.Calls.{Reply, Answer, writeReply, readReply, beside, write, read, grantNumber, grant}
-use Rattle.rules.specs.Entries.{Outside, Poke, poked, flatOutside, BorrowedMemory, ownMemory, otherMemory, BorrowedLatches, ownLatches, otherLatches, Entry, portWrite, portRead, clockGrant, outsideChange, besideBuffers, borrowedBuffers, ownBuffersAfter, grantBorrowed, enter, run, systemAtPowerOn}
+use Rattle.rules.specs.Entries.{Outside, BorrowedMemory, ownMemory, otherMemory, BorrowedLatches, ownLatches, otherLatches, Entry, portWrite, portRead, clockGrant, outsideChange, besideBuffers, borrowedBuffers, ownBuffersAfter, grantBorrowed, enter, run, systemAtPowerOn}
 use Rattle.rules.specs.History.{Event, clockNoted, counterZeroed, Past, withCore, writePassed, clockPassed, clocksPassed, grantPassed, unlessRefused, noteEntry, history, pastAtPowerOn}
-use Rattle.rules.specs.Accounts.{ofKind, clocksNoted, bytesOf, bytesNoted, heldBefore, zeroedNoted, clocksAsked, clocksAccepted, numbersOf, sumOf, AcceptedInTurn, Splits, StoreKeepsRefusal, Demand3, Demand3Flat, PokesKeepLength}
-use Rattle.rules.specs.declared.Place.{Place}
+use Rattle.rules.specs.Accounts.{ofKind, clocksNoted, bytesOf, bytesNoted, heldBefore, zeroedNoted, clocksAsked, clocksAccepted, numbersOf, Demand3}
 use Rattle.rules.specs.declared.Clocks.{Clocks}
 use Rattle.rules.proofs.Choice.{pick-cases, pick-both, pick-true, pick-false, pick-ap}
-use Rattle.rules.proofs.Counting.{clocked-zero, clocked-add, clocked-total, clocked-kept}
-use Rattle.rules.proofs.Calls.{Granted, granted, grantable, grant-accepts, grant-refuses, valid-device, device-valid}
+use Rattle.rules.proofs.Counting.{clocked-total}
+use Rattle.rules.proofs.Calls.{granted, grant-refuses}
 use Rattle.rules.proofs.Counter.{write-zero, write-same, read-same, clock-balanced}
+use Rattle.rules.proofs.Splitting.{grant-splits}
+use Rattle.rules.proofs.Entries.{reached-valid}
 
 -- two choices by one test
 both-picked {ℓ κ μ} : {X : Type ℓ} {Y : Type κ} (R : X → Y → Type μ) (t : Bool) (x y : X) (u v : Y) → (t ≡ true → R x u) → (t ≡ false → R y v) → R (pick t x y) (pick t u v)
@@ -39,7 +37,7 @@ both-picked R false x y u v f g = g refl
 
 -- ---- the counts and the counter against the events
 
-record Counts (k : Clocks) (es : List Event) (counter : ℕ) : Type 0 where
+pub record Counts (k : Clocks) (es : List Event) (counter : ℕ) : Type 0 where
   bus : k .bus ≡ clocksNoted busClock es
   held : k .held ≡ clocksNoted heldClock es
   cpu : k .cpu ≡ clocksNoted cpuClock es
@@ -77,20 +75,20 @@ counts-same k es before after e c = record { bus = c .bus; held = c .held; cpu =
 
 -- ---- the run and the history
 
-record Agree {M : Type 0} (s : System M) (p : Past M) : Type 0 where
-  world : s .world ≡ p .world
-  sum : total (s .clocks) ≡ p .sum
-  counts : Counts (s .clocks) (p .events) (s .world .core .block .counter)
+pub record Agree {M : Type 0} (s : System M) (p : Past M) : Type 0 where
+  pub world : s .world ≡ p .world
+  pub sum : total (s .clocks) ≡ p .sum
+  pub counts : Counts (s .clocks) (p .events) (s .world .core .block .counter)
 
 -- a history beside a system, with the same world and sum
 abbrev pastOf : {M : Type 0} → System M → List Event → Past M
 pastOf s es = record { world = s .world; sum = total (s .clocks); events = es }
 
 -- what one entry keeps, where it asks for some clocks and the history gives it this number
-record Step {M : Type 0} (asked : ℕ) (s : System M) (a : Answer M) (given : ℕ) (p : Past M) : Type 0 where
-  number : a .number ≡ given
-  agree : Agree (a .system) p
-  sum : total (a .system .clocks) ≡ total (s .clocks) + pick (eqb (a .number) 0) asked 0
+pub record Step {M : Type 0} (asked : ℕ) (s : System M) (a : Answer M) (given : ℕ) (p : Past M) : Type 0 where
+  pub number : a .number ≡ given
+  pub agree : Agree (a .system) p
+  pub sum : total (a .system .clocks) ≡ total (s .clocks) + pick (eqb (a .number) 0) asked 0
 
 -- an entry that asks for no clock, or is refused, adds none
 no-clocks : (t : Bool) (n : ℕ) → n ≡ n + pick t 0 0
@@ -231,19 +229,19 @@ module _ {M C : Type 0} (σ : Store M) (ω : Outside M C) where
   entry-literal (outsideChange x) s es c =
       record { number = refl; agree = record { world = refl; sum = refl; counts = c }; sum = no-clocks _ _ }
 
-  entry-step : (e : Entry σ C) (s : System M) (p : Past M) → Agree s p → Step (clocksAsked e) s (enter σ ω e s) (noteEntry σ ω e p .number) (noteEntry σ ω e p .past)
+  pub entry-step : (e : Entry σ C) (s : System M) (p : Past M) → Agree s p → Step (clocksAsked e) s (enter σ ω e s) (noteEntry σ ω e p .number) (noteEntry σ ω e p .past)
   entry-step e s p a =
       subst (λ (q : Past M). Step (clocksAsked e) s (enter σ ω e s) (noteEntry σ ω e q .number) (noteEntry σ ω e q .past))
       (λ i. record { world = a .world i; sum = a .sum i; events = p .events }) (entry-literal e s (p .events) (a .counts))
 
   -- ---- a list of entries
 
-  record Ends (es : List (Entry σ C)) (s : System M) (p : Past M) : Type 0 where
-    agree : Agree (run σ ω es s .system) (history σ ω es p .past)
+  pub record Ends (es : List (Entry σ C)) (s : System M) (p : Past M) : Type 0 where
+    pub agree : Agree (run σ ω es s .system) (history σ ω es p .past)
     sum : total (run σ ω es s .system .clocks) ≡ total (s .clocks) + clocksAccepted es (run σ ω es s .answers)
     numbers : numbersOf (run σ ω es s .answers) ≡ history σ ω es p .numbers
 
-  ends : (es : List (Entry σ C)) (s : System M) (p : Past M) → Agree s p → Ends es s p
+  pub ends : (es : List (Entry σ C)) (s : System M) (p : Past M) → Agree s p → Ends es s p
   unfolding run history clocksAccepted numbersOf
   ends [] s p a = record { agree = a; sum = sym (add-zero _); numbers = refl }
   ends (e ∷ es) s p a =
@@ -255,79 +253,9 @@ module _ {M C : Type 0} (σ : Store M) (ω : Outside M C) where
         numbers = λ i. k .number i ∷ r .numbers i;
       }
 
--- ---- splitting a grant
-
-module _ {M : Type 0} (σ : Store M) (keeps : StoreKeepsRefusal σ) where
-  -- what a grant asks of the buffers, a clock keeps
-  record SameBuffers (b d : Buffers M) : Type 0 where
-    memory : σ .refusal (d .memory) ≡ σ .refusal (b .memory)
-    latches : length (d .latches) ≡ length (b .latches)
-
-  put-same : (p : Place) (byte : ℕ) (b : Buffers M) → SameBuffers b (put σ p byte b)
-  unfolding put
-  put-same p byte b =
-      pick-both (SameBuffers b) _ _ _
-      (record { memory = refl; latches = length-set (b .latches) _ _ })
-      (record { memory = keeps (b .memory) _ _; latches = refl })
-
-  step-same : (w : World M) → SameBuffers (w .buffers) (step σ w .buffers)
-  unfolding buffersAfter
-  step-same w =
-      pick-both (SameBuffers (w .buffers)) _ _ _ (put-same _ _ (w .buffers)) (record { memory = refl; latches = refl })
-
-  clocked-same : (n : ℕ) (s : System M) → SameBuffers (s .world .buffers) (clocked σ n s .world .buffers)
-  unfolding clocked
-  clocked-same zero s = record { memory = refl; latches = refl }
-  clocked-same (suc n) s =
-      let h = clocked-same n s in
-      let k = step-same (clocked σ n s .world) in
-      record { memory = k .memory ∙ h .memory; latches = k .latches ∙ h .latches }
-
-  -- a grant of fewer clocks is accepted too, and so is the rest after it
-  granted-fewer : (s : System M) (k n : ℕ) → Granted σ (s .world .core) (total (s .clocks)) (s .world .buffers) (k + n) → Granted σ (s .world .core) (total (s .clocks)) (s .world .buffers) k
-  granted-fewer s k n g = record { state = g .state; memory = g .memory; latches = g .latches; room = omega (arith, g .room) }
-
-  granted-rest : (s : System M) (k n : ℕ) → InRange (s .world .core) → Granted σ (s .world .core) (total (s .clocks)) (s .world .buffers) (k + n) → Granted σ (clocked σ k s .world .core) (total (clocked σ k s .clocks)) (clocked σ k s .world .buffers) n
-  granted-rest s k n r g =
-      let v = valid-device (s .world .core) (s .clocks) r (g .state) in
-      let t = clocked-total σ k s in
-      let b = clocked-same k s in
-      record {
-        state = device-valid (clocked σ k s .world .core) (clocked σ k s .clocks) (record { core = clocked-kept σ k s (v .core); sum = omega (arith, g .room) });
-        memory = b .memory ∙ g .memory;
-        latches = b .latches ∙ g .latches;
-        room = omega (arith, g .room);
-      }
-
-  accepted-in-turn : (ns : List ℕ) (s : System M) → InRange (s .world .core) → Granted σ (s .world .core) (total (s .clocks)) (s .world .buffers) (sumOf ns) → AcceptedInTurn σ ns s (clocked σ (sumOf ns) s)
-  unfolding AcceptedInTurn sumOf
-  accepted-in-turn [] s r g = sym (clocked-zero σ s)
-  accepted-in-turn (n ∷ ns) s r g =
-      let e = grantable σ _ _ _ n (granted-fewer s n (sumOf ns) g) in
-      let a = grant-accepts σ s (clocked σ n s) n e refl in
-      let v = valid-device (s .world .core) (s .clocks) r (g .state) in (
-        sym (ap (λ (x : Answer M). x .number) a),
-        subst (λ (x : Answer M). AcceptedInTurn σ ns (x .system) (clocked σ (n + sumOf ns) s)) a
-            (subst (λ (t : System M). AcceptedInTurn σ ns (clocked σ n s) t) (sym (clocked-add σ n (sumOf ns) s))
-            (accepted-in-turn ns (clocked σ n s) (clocked-kept σ n s (v .core) .range) (granted-rest s n (sumOf ns) r g))),
-      )
-
-  -- an accepted grant has no refusal number, and ends after its clocks
-  accepted-number : (s : System M) (n : ℕ) → grant σ s n .number ≡ 0 → grantNumber σ s n ≡ 0
-  unfolding grant
-  accepted-number s n =
-      pick-cases (λ (a : Answer M). a .number ≡ 0 → grantNumber σ s n ≡ 0) _ _ _ (λ e h. eqb-true _ _ e) (λ e h. h)
-
-  pub grant-splits : Splits σ
-  grant-splits s n r e ns q =
-      let z = accepted-number s n e in
-      subst (λ (t : System M). AcceptedInTurn σ ns s t)
-      (ap (λ (k : ℕ). clocked σ k s) q ∙ ap (λ (a : Answer M). a .system) (grant-accepts σ s (clocked σ n s) n z refl))
-      (accepted-in-turn ns s r (granted σ _ _ _ _ (ap (λ (k : ℕ). grantNumber σ s k) q ∙ z)))
-
 -- ---- the claim
 
-start-agrees : {M : Type 0} (m : M) (l : List ℕ) → Agree (systemAtPowerOn m l) (pastAtPowerOn m l)
+pub start-agrees : {M : Type 0} (m : M) (l : List ℕ) → Agree (systemAtPowerOn m l) (pastAtPowerOn m l)
 unfolding clocksNoted bytesNoted zeroedNoted
 start-agrees m l =
     record { world = refl; sum = refl; counts = record { bus = refl; held = refl; cpu = refl; bytes = refl } }
@@ -340,19 +268,9 @@ demand3 M C σ ω m l es =
       held = h .agree .counts .held;
       cpu = h .agree .counts .cpu;
       sum = h .sum ∙ zero-add _;
+      sum-noted = sym (h .agree .sum) ∙ h .sum ∙ zero-add _;
       bytes = h .agree .counts .bytes;
-      splits = grant-splits σ;
+      splits = λ b. grant-splits σ _ (reached-valid σ ω m l es b .core .range);
       world = h .agree .world;
       numbers = h .numbers;
     }
-
-flat-keeps-refusal : StoreKeepsRefusal flat
-flat-keeps-refusal x address byte = ap (λ (k : ℕ). firstHit (test 4 (not (eqb k 65536)) ∷ [])) (length-set x address byte)
-
-pub demand3-flat : Demand3Flat
-demand3-flat = (λ m l es. demand3 (List ℕ) (List Poke) flat flatOutside m l es, grant-splits flat flat-keeps-refusal)
-
-pub pokes-keep-length : PokesKeepLength
-unfolding poked
-pokes-keep-length [] m = refl
-pokes-keep-length (p ∷ ps) m = pokes-keep-length ps (set m (p .address) (p .byte)) ∙ length-set m (p .address) (p .byte)

@@ -15,8 +15,8 @@ use Rattle.rules.specs.Facts.{ValidParts, InRange}
 use Rattle.rules.specs.Buffers.{Store, flat, Buffers}
 use Rattle.rules.specs.World.{System, clocked}
 use Rattle.rules.specs.Refusals.{wrongPort, accessRefusal, grantRefusal}
-use Rattle.rules.specs.Calls.{Reply, Answer, refused, writeReply, readReply, write, read, grantNumber, grant}
-use Rattle.rules.specs.Keeping.{ValidDevice, StaysValid, HandsBack}
+use Rattle.rules.specs.Calls.{Reply, Answer, writeReply, readReply, write, read, grantNumber, grant}
+use Rattle.rules.specs.Keeping.{ValidDevice, StaysValid, StaysValidByTest, HandsBack}
 use Rattle.rules.specs.Opened.{opened}
 use Rattle.rules.specs.declared.Clocks.{Clocks}
 use Rattle.rules.specs.declared.Core.{Core}
@@ -127,21 +127,21 @@ unfolding readReply
 read-valid c k port s =
     pick-cases (λ (r : Reply). ValidDevice (r .core) (r .clocks)) _ _ _ (λ e. record { core = read-kept c (s .core); sum = s .sum }) (λ e. s)
 
-abbrev ValidSystem : {M : Type 0} → System M → Type 0
+abbrev pub ValidSystem : {M : Type 0} → System M → Type 0
 ValidSystem s = ValidDevice (s .world .core) (s .clocks)
 
 -- ---- a refused call hands everything back
 
-write-refused : (c : Core) (k : Clocks) (port byte : ℕ) → (writeReply c k port byte .number ≡ 0 → ⊥) → writeReply c k port byte ≡ refused (accessRefusal c (total k) port) c k
+write-refused : (c : Core) (k : Clocks) (port byte : ℕ) → (writeReply c k port byte .number ≡ 0 → ⊥) → writeReply c k port byte ≡ record { number = accessRefusal c (total k) port; byte = 0; core = c; clocks = k }
 unfolding writeReply
 write-refused c k port byte =
-    pick-cases (λ (r : Reply). (r .number ≡ 0 → ⊥) → r ≡ refused (accessRefusal c (total k) port) c k) _ _ _
+    pick-cases (λ (r : Reply). (r .number ≡ 0 → ⊥) → r ≡ record { number = accessRefusal c (total k) port; byte = 0; core = c; clocks = k }) _ _ _
     (λ e n. absurd (n refl)) (λ e n. refl)
 
-read-refused : (c : Core) (k : Clocks) (port : ℕ) → (readReply c k port .number ≡ 0 → ⊥) → readReply c k port ≡ refused (accessRefusal c (total k) port) c k
+read-refused : (c : Core) (k : Clocks) (port : ℕ) → (readReply c k port .number ≡ 0 → ⊥) → readReply c k port ≡ record { number = accessRefusal c (total k) port; byte = 0; core = c; clocks = k }
 unfolding readReply
 read-refused c k port =
-    pick-cases (λ (r : Reply). (r .number ≡ 0 → ⊥) → r ≡ refused (accessRefusal c (total k) port) c k) _ _ _
+    pick-cases (λ (r : Reply). (r .number ≡ 0 → ⊥) → r ≡ record { number = accessRefusal c (total k) port; byte = 0; core = c; clocks = k }) _ _ _
     (λ e n. absurd (n refl)) (λ e n. refl)
 
 module _ {M : Type 0} (σ : Store M) where
@@ -193,6 +193,15 @@ module _ {M : Type 0} (σ : Store M) where
   pub stays-valid : StaysValid σ
   stays-valid =
       record { power-on = power-on-valid; write = write-valid; read = read-valid; clock = clock-kept; granted = grant-valid σ }
+
+  pub stays-valid-by-test : StaysValidByTest σ
+  stays-valid-by-test =
+      record {
+        power-on = device-valid _ _ power-on-valid;
+        write = λ c k port byte b r v. device-valid _ _ (write-valid c k port byte b (valid-device c k r v));
+        read = λ c k port r v. device-valid _ _ (read-valid c k port (valid-device c k r v));
+        granted = λ s n r v. device-valid _ _ (grant-valid σ s n (valid-device _ _ r v));
+      }
 
   pub hands-back : HandsBack σ
   hands-back = record { write = write-refused; read = read-refused; granted = grant-refused σ }

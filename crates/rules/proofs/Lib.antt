@@ -1,12 +1,11 @@
-pub mod WorkedExamples
-pub mod Slips
-pub mod Lists
 pub mod Choice
+pub mod Trying
 pub mod Bytes
 pub mod Validity
 pub mod Slots
 pub mod Ports
 pub mod Parameters
+pub mod Awaiting
 pub mod Selection
 pub mod Steady
 pub mod Writing
@@ -17,5 +16,10 @@ pub mod Spans
 pub mod Stretches
 pub mod WholeSlots
 pub mod Calls
+pub mod Refusing
 pub mod Counter
+pub mod Entries
+pub mod Splitting
 pub mod Accounts
+pub mod SplittingLists
+pub mod Reached

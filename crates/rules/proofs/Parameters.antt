@@ -58,7 +58,7 @@ pub wr2-valid : (byte : ℕ) → validPending (wr2Asks byte) ≡ true
 unfolding opened alone-ways
 wr2-valid byte = anyway-at (alone-ways bTiming) refl (bit 6 byte)
 
-prescaler-alone : (t : Bool) → validPending (ask t prescaler nothing) ≡ true
+pub prescaler-alone : (t : Bool) → validPending (ask t prescaler nothing) ≡ true
 unfolding opened alone-ways
 prescaler-alone t = anyway-at (alone-ways prescaler) refl t
 
@@ -79,7 +79,7 @@ follows-cases x y e f g h =
     (λ r. any-cases _ _ r (λ d. let k = all-true _ d in g (leb-true _ _ (k .0)) (ltb-true _ _ (k .1 .0)) (leb-true _ _ (k .1 .1 .0)))
     (λ q. any-cases _ _ q (λ d. let k = all-true _ d in h (leb-true _ _ (k .0)) (ltb-true _ _ (k .1 .0)) (leb-true _ _ (k .1 .1 .0))) any-none))
 
-follows-small : (x y : ℕ) → follows x y ≡ true → y ≤ 10
+pub follows-small : (x y : ℕ) → follows x y ≡ true → y ≤ 10
 follows-small x y e = follows-cases x y e (λ d. omega arith) (λ i j k. omega arith) (λ i j k. omega arith)
 
 -- nothing stands behind nothing

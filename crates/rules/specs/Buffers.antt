@@ -2,10 +2,11 @@
 -- The memory is a parameter: whatever can load and store a byte at an address and say when a grant must refuse it.
 -- Assumes nothing.
 use Prim.Native.Nat.{ℕ, _+_}
+use mathlib.Core.Path.{_≡_, ap}
 use mathlib.Core.Bool.{not}
 use mathlib.Core.List.{List, [], _∷_}
 use lib.Dec.{eqb}
-use lib.ListN.{length, getD, set}
+use lib.ListN.{length, getD, set, length-set}
 use Rattle.rules.specs.Choice.{pick, test, firstHit}
 use Rattle.rules.specs.declared.Port.{Port}
 use Rattle.rules.specs.declared.Place.{Place}
@@ -17,19 +18,25 @@ placed at [] l = l
 placed at (x ∷ xs) l = placed (at + 1) xs (set l at x)
 
 -- a kind of memory: the byte at an address, the memory with a byte stored at one, and the number with which a grant refuses
--- the memory, 0 where it does not
+-- the memory, 0 where it does not; it comes with the law that storing a byte leaves this number
 pub record Store (M : Type 0) : Type 0 where
   pub load : M → ℕ → ℕ
   pub store : M → ℕ → ℕ → M
   pub refusal : M → ℕ
+  pub refusal-kept : (m : M) (address byte : ℕ) → refusal (store m address byte) ≡ refusal m
 
--- the flat memory is its list of bytes; a grant refuses it with 4 where it is not 65,536 bytes
+-- a grant refuses a flat memory of this length with 4 where it is not 65,536
+abbrev pub lengthRefusal : ℕ → ℕ
+lengthRefusal n = firstHit (test 4 (not (eqb n 65536)) ∷ [])
+
+-- the flat memory is its list of bytes
 abbrev pub flat : Store (List ℕ)
 flat =
     record {
       load = λ m address. getD m address 0;
       store = λ m address byte. set m address byte;
-      refusal = λ m. firstHit (test 4 (not (eqb (length m) 65536)) ∷ []);
+      refusal = λ m. lengthRefusal (length m);
+      refusal-kept = λ m address byte. ap lengthRefusal (length-set m address byte);
     }
 
 pub record Buffers (M : Type 0) : Type 0 where

@@ -1,8 +1,14 @@
--- Bits of a byte, and the two bytes of a 16-bit number.
+-- Bytes, the bits of one, and the two bytes of a 16-bit number.
 -- Assumes nothing.
-use Prim.Native.Nat.{ℕ, _+_, _*_, _/_, _%_, _^_}
+use Prim.Native.Nat.{ℕ, _+_, _*_, _/_, _%_, _^_, _<_}
 use mathlib.Core.Bool.{Bool}
+use mathlib.Core.List.{List, [], _∷_}
 use lib.Dec.{eqb}
+
+-- each of these numbers is a byte: the one hypothesis about lists of calls and about sessions
+unfoldable pub AreBytes : List ℕ → Type 0
+AreBytes [] = Unit {0}
+AreBytes (x ∷ xs) = (x < 256) × AreBytes xs
 
 -- bit k of a byte is set
 abbrev pub bit : ℕ → ℕ → Bool

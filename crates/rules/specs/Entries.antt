@@ -23,6 +23,10 @@ unfoldable pub poked : List Poke → List ℕ → List ℕ
 poked [] m = m
 poked (p ∷ ps) m = poked ps (set m (p .address) (p .byte))
 
+-- an outside change keeps the length of the flat memory
+abbrev pub PokesKeepLength : Type 0
+PokesKeepLength = (ps : List Poke) (m : List ℕ) → length (poked ps m) ≡ length m
+
 abbrev pub flatOutside : Outside (List ℕ) (List Poke)
 flatOutside = record { change = poked }
 
@@ -44,6 +48,14 @@ pub data Entry {M : Type 0} (σ : Store M) (C : Type 0) : Type 0 where
   portRead : ℕ → Entry σ C
   clockGrant : ℕ → BorrowedMemory σ → BorrowedLatches → Entry σ C
   outsideChange : C → Entry σ C
+
+-- the bytes that a list writes to ports
+unfoldable pub bytesWritten : {M C : Type 0} {σ : Store M} → List (Entry σ C) → List ℕ
+bytesWritten [] = []
+bytesWritten (portWrite port byte ∷ es) = byte ∷ bytesWritten es
+bytesWritten (portRead port ∷ es) = bytesWritten es
+bytesWritten (clockGrant n m l ∷ es) = bytesWritten es
+bytesWritten (outsideChange x ∷ es) = bytesWritten es
 
 -- what an entry is answered with; an outside change, with 0
 pub record Answered : Type 0 where

@@ -2,14 +2,15 @@
 -- Assumes nothing.
 use Prim.Native.Nat.{ℕ, _≤_, _<_}
 use mathlib.Core.Path.{_≡_}
+use mathlib.Core.Bool.{true}
 use Rattle.rules.specs.PowerOn.{powerOn, noClocks}
-use Rattle.rules.specs.Validity.{total, most64}
-use Rattle.rules.specs.Facts.{Kept}
+use Rattle.rules.specs.Validity.{valid, total, most64}
+use Rattle.rules.specs.Facts.{InRange, Kept}
 use Rattle.rules.specs.Clock.{clockOf}
 use Rattle.rules.specs.Buffers.{Store}
 use Rattle.rules.specs.World.{System}
 use Rattle.rules.specs.Refusals.{accessRefusal}
-use Rattle.rules.specs.Calls.{refused, writeReply, readReply, grantNumber, grant}
+use Rattle.rules.specs.Calls.{writeReply, readReply, grantNumber, grant}
 use Rattle.rules.specs.declared.Clocks.{Clocks}
 use Rattle.rules.specs.declared.Core.{Core}
 
@@ -25,8 +26,18 @@ pub record StaysValid {M : Type 0} (σ : Store M) : Type 0 where
   pub clock : (c : Core) → Kept c → Kept (clockOf c .next)
   pub granted : (s : System M) (n : ℕ) → ValidDevice (s .world .core) (s .clocks) → ValidDevice (grant σ s n .system .world .core) (grant σ s n .system .clocks)
 
+-- the same of the test that refusal 1 uses, for a device whose fields lie within their types
+abbrev pub Passes : Core → Clocks → Type 0
+Passes c k = valid c (total k) ≡ true
+
+pub record StaysValidByTest {M : Type 0} (σ : Store M) : Type 0 where
+  pub power-on : Passes powerOn noClocks
+  pub write : (c : Core) (k : Clocks) (port byte : ℕ) → byte < 256 → InRange c → Passes c k → Passes (writeReply c k port byte .core) (writeReply c k port byte .clocks)
+  pub read : (c : Core) (k : Clocks) (port : ℕ) → InRange c → Passes c k → Passes (readReply c k port .core) (readReply c k port .clocks)
+  pub granted : (s : System M) (n : ℕ) → InRange (s .world .core) → Passes (s .world .core) (s .clocks) → Passes (grant σ s n .system .world .core) (grant σ s n .system .clocks)
+
 -- a refused call answers its number, no byte, and all that it was handed
 pub record HandsBack {M : Type 0} (σ : Store M) : Type 0 where
-  pub write : (c : Core) (k : Clocks) (port byte : ℕ) → (writeReply c k port byte .number ≡ 0 → ⊥) → writeReply c k port byte ≡ refused (accessRefusal c (total k) port) c k
-  pub read : (c : Core) (k : Clocks) (port : ℕ) → (readReply c k port .number ≡ 0 → ⊥) → readReply c k port ≡ refused (accessRefusal c (total k) port) c k
+  pub write : (c : Core) (k : Clocks) (port byte : ℕ) → (writeReply c k port byte .number ≡ 0 → ⊥) → writeReply c k port byte ≡ record { number = accessRefusal c (total k) port; byte = 0; core = c; clocks = k }
+  pub read : (c : Core) (k : Clocks) (port : ℕ) → (readReply c k port .number ≡ 0 → ⊥) → readReply c k port ≡ record { number = accessRefusal c (total k) port; byte = 0; core = c; clocks = k }
   pub granted : (s : System M) (n : ℕ) → (grant σ s n .number ≡ 0 → ⊥) → grant σ s n ≡ record { number = grantNumber σ s n; byte = 0; system = s }

@@ -21,10 +21,10 @@ pub mod WholeSlots
 pub mod Refusals
 pub mod Calls
 pub mod Keeping
+pub mod Exactly
 pub mod Entries
 pub mod History
+pub mod Splitting
 pub mod Accounts
-pub mod Rows
-pub mod WorkedExamples
-pub mod Slips
+pub mod Reached
 pub mod Opened

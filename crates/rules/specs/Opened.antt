@@ -16,8 +16,7 @@ use Rattle.rules.specs.Refusals.{accessRefusal, grantRefusal}
 use Rattle.rules.specs.Calls.{writeReply, readReply, grant}
 use Rattle.rules.specs.Entries.{poked, run}
 use Rattle.rules.specs.History.{zeroing, writePassed, unlessRefused, clocksPassed, history}
-use Rattle.rules.specs.Rows.{same, sendAll, expectAll, movesSo, perform, played, rowFailures, failures}
 
 unfoldable pub opened : Unit {0}
-unfolding pick every any firstHit cycleOf stepped blockCount finished waiting busHeld unmoved ask follows validPending validPort validReadback restingSlot validLength runningSlot validSlot validProgress validCore valid enable readingCommand command wr3 register parameter effect statusByte registerByte after seek readByte slotLength movedAt kindAt slotEnd clockEnd slotClock firstClock clockOf source destination byteAt put buffersAfter clocked accessRefusal grantRefusal writeReply readReply grant poked run zeroing writePassed unlessRefused clocksPassed history same placed sendAll expectAll movesSo perform played rowFailures failures
+unfolding pick every any firstHit cycleOf stepped blockCount finished waiting busHeld unmoved ask follows validPending validPort validReadback restingSlot validLength runningSlot validSlot validProgress validCore valid enable readingCommand command wr3 register parameter effect statusByte registerByte after seek readByte slotLength movedAt kindAt slotEnd clockEnd slotClock firstClock clockOf source destination byteAt put buffersAfter clocked accessRefusal grantRefusal writeReply readReply grant poked run zeroing writePassed unlessRefused clocksPassed history placed
 opened = tt

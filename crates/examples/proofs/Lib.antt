@@ -1,0 +1,4 @@
+pub mod WorkedExamples
+pub mod Bites
+pub mod ShortLists
+pub mod Slips

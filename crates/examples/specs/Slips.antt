@@ -1,0 +1,79 @@
+-- Wrong models that no change of one definition could express, each with the worked example at which it differs.
+-- Assumes nothing.
+use Prim.Native.Nat.{ℕ, zero, suc, _+_}
+use mathlib.Core.Path.{_≡_}
+use mathlib.Core.List.{List, [], _∷_}
+use lib.ListN.{take, drop, getD, set}
+use Rattle.rules.specs.Blocks.{blockCount}
+use Rattle.rules.specs.Parts.{withSlot}
+use Rattle.rules.specs.Slots.{noSlot}
+use Rattle.rules.specs.Registers.{inMode}
+use Rattle.rules.specs.Readback.{readByte}
+use Rattle.rules.specs.Buffers.{flat}
+use Rattle.rules.specs.World.{System}
+use Rattle.rules.specs.Calls.{grant}
+use Rattle.rules.specs.Entries.{flatOutside, portWrite}
+use Rattle.rules.specs.History.{Past, grantPassed, history, pastAtPowerOn}
+use Rattle.rules.specs.Accounts.{bytesNoted, zeroedNoted}
+use Rattle.examples.specs.Rows.{Row, withCore, start, played}
+use Rattle.examples.specs.WorkedExamples.{threeClocks, overlap, modeByParameter}
+use Rattle.examples.specs.ShortLists.{sent, granting, blocks, zeros}
+use Rattle.rules.specs.declared.Core.{Core}
+
+-- n bytes from one address to another, each as it was in the saved memory
+unfoldable pub savedCopy : ℕ → ℕ → ℕ → List ℕ → List ℕ → List ℕ
+savedCopy zero from to saved m = m
+savedCopy (suc n) from to saved m = set (savedCopy n from to saved m) (to + n) (getD saved (from + n) 0)
+
+-- the memory of a row after so many of its actions
+abbrev pub memoryOf : ℕ → Row → List ℕ
+memoryOf n r = played (take n (r .actions)) start .world .buffers .memory
+
+-- the block copied as if its source had been saved first: P8, whose bytes stand there after one action, ends otherwise
+abbrev pub NotSaved : Type 0
+NotSaved = memoryOf 6 overlap ≡ savedCopy 4 0x1000 0x1001 (memoryOf 1 overlap) (memoryOf 1 overlap) → ⊥
+
+-- the whole block moved on the first clock: P3, where two actions have been three clocks, is otherwise
+abbrev pub NotWhole : Type 0
+NotWhole = memoryOf 2 threeClocks ≡ savedCopy 4 0x1000 0x2000 (memoryOf 0 threeClocks) (memoryOf 0 threeClocks) → ⊥
+
+-- a read that sets the compatibility mode by its port
+abbrev pub modeByRead : ℕ → Core → Core
+modeByRead port c = readByte (inMode port c) .core
+
+-- in Zilog mode, where the row on parameters ends, a read of 6B leaves the block count
+abbrev pub modeAtEnd : Core
+modeAtEnd = played (modeByParameter .actions) start .world .core
+
+abbrev pub NotModeByRead : Type 0
+NotModeByRead = blockCount (readByte modeAtEnd .core .block) ≡ blockCount (modeByRead 0x6B modeAtEnd .block) → ⊥
+
+-- ---- the history
+
+-- the history of a block of one byte and a Continue after it, from power-on and zeros: the latest event is the Continue's note
+abbrev pub continued : Past (List ℕ)
+continued = history flat flatOutside (sent (blocks 1 0x82) (granting 4 ∷ portWrite 0x6B 0xD3 ∷ [])) zeros .past
+
+-- the bytes are accounted for by the counters noted and what the counter holds, and not without this note
+abbrev pub NotWithoutContinue : Type 0
+NotWithoutContinue =
+    bytesNoted (continued .events) ≡ zeroedNoted (drop 1 (continued .events)) + continued .world .core .block .counter → ⊥
+
+-- a Load is noted at a counter of 0 too
+abbrev pub NotWithoutZero : Type 0
+NotWithoutZero = history flat flatOutside (portWrite 0x6B 0xCF ∷ []) (pastAtPowerOn [] []) .past .events ≡ [] → ⊥
+
+-- a refused grant, here for its memory, passed as if it were accepted
+abbrev pub NotPassed : Type 0
+NotPassed =
+    history flat flatOutside (granting 5 ∷ []) (pastAtPowerOn [] []) .past .sum ≡ grantPassed flat 5 (pastAtPowerOn [] []) .sum → ⊥
+
+-- a grant that begins its slot anew: cut after three of its four clocks, the byte has moved, and would not have
+abbrev pub cutSlot : System (List ℕ)
+cutSlot = played (take 2 (threeClocks .actions)) start
+
+abbrev pub NotAnew : Type 0
+NotAnew =
+    grant flat cutSlot 1 .system .world .core .block .counter
+    ≡ grant flat (withCore (withSlot noSlot (cutSlot .world .core)) cutSlot) 1 .system .world .core .block .counter
+    → ⊥

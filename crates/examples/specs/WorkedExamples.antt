@@ -1,0 +1,823 @@
+-- The worked examples (document 01: bench sheet). The rows whose names begin with P stand in document 01; the others are
+-- ours, each for a rule that those would let slip.
+-- Assumes nothing.
+use Prim.Native.Nat.{ℕ}
+use mathlib.Core.Path.{_≡_}
+use mathlib.Core.Bool.{Bool, true, false}
+use mathlib.Core.List.{List, [], _∷_, _++_}
+use Rattle.rules.specs.Parts.{withCycle, withCounter, withMask, withPosition, withA, withB, withBlock, withReadback, withPending, withSlot}
+use Rattle.rules.specs.declared.Core.{Core}
+use Rattle.rules.specs.Clock.{slotLength}
+use Rattle.rules.specs.Bytes.{lowByte, highByte}
+use Rattle.examples.specs.Rows.{Row, row, fill, latch, send, sendRefused, expect, expectRefused, clocks, borrow, counts, memory, latches, pointers, counter, status, enabled, count, suppose, supposeCounts, clocksRefused, figure, changed, nextMove, start, failures}
+
+-- the bytes of P1: port A at 1000, four bytes, to port B at 2000, cycles of 2 clocks, continuous
+abbrev pub sheet : List ℕ
+sheet = 0x83 ∷ 0x7D ∷ 0x00 ∷ 0x10 ∷ 0x04 ∷ 0x00 ∷ 0x54 ∷ 0x02 ∷ 0x50 ∷ 0x02 ∷ 0xAD ∷ 0x00 ∷ 0x20 ∷ 0x82 ∷ 0xCF ∷ 0x87 ∷ []
+
+-- the same bytes for a block from a of n bytes to b, with other bytes after WR2, another WR4 and another WR5
+abbrev pub program : ℕ → ℕ → List ℕ → ℕ → ℕ → ℕ → List ℕ
+program a n timing wr4 b wr5 =
+    0x83 ∷ 0x7D ∷ lowByte a ∷ highByte a ∷ lowByte n ∷ highByte n ∷ 0x54 ∷ 0x02 ∷ 0x50
+    ∷ (timing ++ (wr4 ∷ lowByte b ∷ highByte b ∷ wr5 ∷ 0xCF ∷ 0x87 ∷ []))
+
+-- the 24 bytes that select no register, and the commands that do nothing
+abbrev pub idle : List ℕ
+idle =
+    0x86 ∷ 0x8E ∷ 0x96 ∷ 0x9E ∷ 0xA6 ∷ 0xAE ∷ 0xB6 ∷ 0xBE ∷ 0xC2 ∷ 0xC6 ∷ 0xCA ∷ 0xCE ∷ 0xD2 ∷ 0xD6 ∷ 0xDA ∷ 0xDE
+    ∷ 0xE2 ∷ 0xE6 ∷ 0xEA ∷ 0xEE ∷ 0xF2 ∷ 0xF6 ∷ 0xFA ∷ 0xFE
+    ∷ 0x8F ∷ 0x93 ∷ 0x97 ∷ 0x9B ∷ 0x9F ∷ 0xA3 ∷ 0xAB ∷ 0xAF ∷ 0xB3 ∷ 0xB7 ∷ 0xD7 ∷ 0xDB ∷ 0xDF ∷ 0xE3 ∷ 0xE7 ∷ 0xEB
+    ∷ 0xEF ∷ 0xF3 ∷ 0xF7 ∷ 0xFB ∷ 0xFF ∷ []
+
+-- a core with these codes pending
+abbrev pub awaiting : ℕ → ℕ → ℕ → ℕ → Core → Core
+awaiting a b d e c = withPending (record { first = a; second = b; third = d; fourth = e }) c
+
+-- a core in this slot
+abbrev pub inSlot : ℕ → ℕ → ℕ → Bool → Core → Core
+inSlot n bus length burst c = withSlot (record { elapsed = n; bus = bus; length = length; burst = burst }) c
+
+-- P3: three clocks move nothing, and the bus is held; the fourth moves the byte
+abbrev pub threeClocks : Row
+threeClocks =
+    row "P3"
+    (send 0x6B sheet
+    ∷ clocks 3
+    ∷ memory 0x2000 (0xE1 ∷ 0xE2 ∷ 0xE3 ∷ 0xE4 ∷ 0xE5 ∷ 0xE6 ∷ [])
+    ∷ counter 0
+    ∷ status 0x3A
+    ∷ pointers 0x1000 0x2000
+    ∷ sendRefused 0x6B 0x83 3
+    ∷ expectRefused 0x6B 3
+    ∷ counts 3 0 0
+    ∷ clocks 1
+    ∷ memory 0x2000 (0xA1 ∷ 0xE2 ∷ [])
+    ∷ counter 1
+    ∷ status 0x3B
+    ∷ [])
+
+-- compatibility mode by a parameter: a parameter's port sets the mode; a read's does not
+abbrev pub modeByParameter : Row
+modeByParameter =
+    row "compatibility mode by a parameter"
+    (send 0x6B (0x65 ∷ [])
+    ∷ send 0x0B (0x05 ∷ [])
+    ∷ count 6
+    ∷ send 0x6B (0x01 ∷ [])
+    ∷ count 0x105
+    ∷ send 0x0B (0x83 ∷ [])
+    ∷ count 0x106
+    ∷ expect 0x6B (0x3A ∷ [])
+    ∷ count 0x106
+    ∷ [])
+
+-- P8: an overlap: each byte is read after the one before it was written
+abbrev pub overlap : Row
+overlap =
+    row "P8"
+    (fill 0x1000 (0x11 ∷ 0x22 ∷ 0x33 ∷ 0x44 ∷ 0x55 ∷ 0x66 ∷ [])
+    ∷ send 0x6B (program 0x1000 4 (0x02 ∷ []) 0xAD 0x1001 0x82)
+    ∷ clocks 15
+    ∷ enabled true
+    ∷ clocks 1
+    ∷ enabled false
+    ∷ memory 0x1000 (0x11 ∷ 0x11 ∷ 0x11 ∷ 0x11 ∷ 0x11 ∷ 0x66 ∷ [])
+    ∷ counts 16 0 0
+    ∷ [])
+
+abbrev pub table : List Row
+table =
+    -- P1: four bytes in 16 clocks, then all seven registers
+    row "P1"
+    (send 0x6B sheet
+    ∷ enabled true
+    ∷ clocks 16
+    ∷ enabled false
+    ∷ counts 16 0 0
+    ∷ memory 0x2000 (0xA1 ∷ 0xA2 ∷ 0xA3 ∷ 0xA4 ∷ 0xE5 ∷ 0xE6 ∷ [])
+    ∷ memory 0x1000 (0xA1 ∷ 0xA2 ∷ 0xA3 ∷ 0xA4 ∷ 0xA5 ∷ 0xA6 ∷ [])
+    ∷ pointers 0x1004 0x2004
+    ∷ expect 0x6B (0x1B ∷ 0x04 ∷ 0x00 ∷ 0x04 ∷ 0x10 ∷ 0x04 ∷ 0x20 ∷ [])
+    ∷ [])
+    -- P2: the same bytes in Zilog mode: one byte more
+    ∷ row "P2"
+    (send 0x0B sheet
+    ∷ clocks 20
+    ∷ enabled false
+    ∷ counts 20 0 0
+    ∷ memory 0x2000 (0xA1 ∷ 0xA2 ∷ 0xA3 ∷ 0xA4 ∷ 0xA5 ∷ 0xE6 ∷ [])
+    ∷ pointers 0x1005 0x2005
+    ∷ expect 0x0B (0x1B ∷ 0x05 ∷ 0x00 ∷ 0x05 ∷ 0x10 ∷ 0x05 ∷ 0x20 ∷ [])
+    ∷ [])
+    ∷ threeClocks
+    -- P4: prescaler 1 in burst: 32 clocks for each byte, of which the processor has 28
+    ∷ row "P4"
+    (send 0x6B (program 0x1000 3 (0x22 ∷ 0x01 ∷ []) 0xCD 0x2000 0x82)
+    ∷ clocks 96
+    ∷ counts 12 0 84
+    ∷ enabled false
+    ∷ status 0x1B
+    ∷ memory 0x2000 (0xA1 ∷ 0xA2 ∷ 0xA3 ∷ 0xE4 ∷ [])
+    ∷ pointers 0x1003 0x2003
+    ∷ [])
+    -- P5: P4 in continuous: the wait is held, also after the last byte
+    ∷ row "P5"
+    (send 0x6B (program 0x1000 3 (0x22 ∷ 0x01 ∷ []) 0xAD 0x2000 0x82)
+    ∷ clocks 96
+    ∷ counts 12 84 0
+    ∷ enabled false
+    ∷ status 0x1B
+    ∷ memory 0x2000 (0xA1 ∷ 0xA2 ∷ 0xA3 ∷ 0xE4 ∷ [])
+    ∷ [])
+    -- P6: a block of no bytes in zxn mode
+    ∷ row "P6"
+    (send 0x6B (program 0x1000 0 (0x02 ∷ []) 0xAD 0x2000 0x82)
+    ∷ enabled false
+    ∷ clocks 10
+    ∷ status 0x1A
+    ∷ counts 0 0 10
+    ∷ memory 0x2000 (0xE1 ∷ 0xE2 ∷ 0xE3 ∷ 0xE4 ∷ 0xE5 ∷ 0xE6 ∷ [])
+    ∷ counter 0
+    ∷ expect 0x6B (0x1A ∷ 0x00 ∷ 0x00 ∷ 0x00 ∷ 0x10 ∷ 0x00 ∷ 0x20 ∷ [])
+    ∷ [])
+    -- P7: a length of 0 in Zilog mode: one byte
+    ∷ row "P7"
+    (send 0x0B (program 0x1000 0 (0x02 ∷ []) 0xAD 0x2000 0x82)
+    ∷ clocks 3
+    ∷ enabled true
+    ∷ memory 0x2000 (0xE1 ∷ 0xE2 ∷ 0xE3 ∷ 0xE4 ∷ 0xE5 ∷ 0xE6 ∷ [])
+    ∷ clocks 1
+    ∷ enabled false
+    ∷ counts 4 0 0
+    ∷ memory 0x2000 (0xA1 ∷ 0xE2 ∷ [])
+    ∷ counter 1
+    ∷ [])
+    ∷ overlap
+    -- P9: the pointer goes from FFFF to 0000
+    ∷ row "P9"
+    (fill 0xFFFF (0xC1 ∷ [])
+    ∷ fill 0 (0xC2 ∷ 0xC3 ∷ [])
+    ∷ send 0x6B (program 0xFFFF 2 (0x02 ∷ []) 0xAD 0x2000 0x82)
+    ∷ clocks 7
+    ∷ enabled true
+    ∷ clocks 1
+    ∷ enabled false
+    ∷ memory 0x2000 (0xC1 ∷ 0xC2 ∷ 0xE3 ∷ [])
+    ∷ pointers 0x0001 0x2002
+    ∷ expect 0x6B (0x1B ∷ 0x02 ∷ 0x00 ∷ 0x01 ∷ 0x00 ∷ 0x02 ∷ 0x20 ∷ [])
+    ∷ [])
+    -- P10: the longest block: its count, and the counter read modulo 65,536 (not run)
+    ∷ row "P10"
+    (send 0x0B (program 0x1000 0xFFFF (0x02 ∷ []) 0xAD 0x2000 0x82)
+    ∷ count 65536
+    ∷ suppose 65535
+    ∷ send 0x0B (0x87 ∷ [])
+    ∷ enabled true
+    ∷ clocks 4
+    ∷ enabled false
+    ∷ counter 65536
+    ∷ send 0x0B (0x87 ∷ [])
+    ∷ enabled false
+    ∷ expect 0x0B (0x1B ∷ 0x00 ∷ 0x00 ∷ [])
+    ∷ suppose 0x1234
+    ∷ send 0x0B (0xA7 ∷ [])
+    ∷ expect 0x0B (0x1B ∷ 0x34 ∷ 0x12 ∷ [])
+    ∷ [])
+    -- P11: Enable after a finished block moves nothing
+    ∷ row "P11"
+    (send 0x6B sheet
+    ∷ clocks 16
+    ∷ send 0x6B (0x87 ∷ [])
+    ∷ enabled false
+    ∷ status 0x1B
+    ∷ clocks 16
+    ∷ counts 16 0 16
+    ∷ memory 0x2000 (0xA1 ∷ 0xA2 ∷ 0xA3 ∷ 0xA4 ∷ 0xE5 ∷ 0xE6 ∷ [])
+    ∷ pointers 0x1004 0x2004
+    ∷ counter 4
+    ∷ [])
+    -- P12: a port that is not the device's, also while the bus is held
+    ∷ row "P12"
+    (sendRefused 0x006C 0x83 2
+    ∷ expectRefused 0x006C 2
+    ∷ send 0x6B sheet
+    ∷ sendRefused 0x6B 0x83 3
+    ∷ sendRefused 0x006C 0x83 2
+    ∷ expectRefused 0x006C 2
+    ∷ enabled true
+    ∷ [])
+    -- auto restart: the pointers reload, the counter becomes 0, E falls and the block begins again
+    ∷ row "auto restart"
+    (send 0x6B (program 0x1000 2 (0x02 ∷ []) 0xAD 0x2000 0xA2)
+    ∷ clocks 7
+    ∷ status 0x3B
+    ∷ clocks 1
+    ∷ enabled true
+    ∷ status 0x1B
+    ∷ pointers 0x1000 0x2000
+    ∷ counter 0
+    ∷ fill 0x1000 (0xB1 ∷ 0xB2 ∷ [])
+    ∷ clocks 8
+    ∷ memory 0x2000 (0xB1 ∷ 0xB2 ∷ 0xE3 ∷ [])
+    ∷ counts 16 0 0
+    ∷ enabled true
+    ∷ [])
+    -- prescaler in a wait: a new prescaler leaves the running slot and sets the next one
+    ∷ row "prescaler in a wait"
+    (send 0x6B (program 0x1000 3 (0x22 ∷ 0x02 ∷ []) 0xCD 0x2000 0x82)
+    ∷ clocks 10
+    ∷ send 0x6B (0x50 ∷ 0x22 ∷ 0x01 ∷ [])
+    ∷ clocks 54
+    ∷ counts 4 0 60
+    ∷ clocks 4
+    ∷ memory 0x2000 (0xA1 ∷ 0xA2 ∷ 0xE3 ∷ [])
+    ∷ counts 8 0 60
+    ∷ clocks 28
+    ∷ counts 8 0 88
+    ∷ clocks 4
+    ∷ counts 12 0 88
+    ∷ memory 0x2000 (0xA1 ∷ 0xA2 ∷ 0xA3 ∷ 0xE4 ∷ [])
+    ∷ [])
+    -- addresses and length in a wait: the pointers stay until Load; the length counts at the end of the slot
+    ∷ row "addresses and length in a wait"
+    (send 0x6B (program 0x1000 3 (0x22 ∷ 0x01 ∷ []) 0xCD 0x2000 0x82)
+    ∷ clocks 10
+    ∷ send 0x6B (0x7D ∷ 0x00 ∷ 0x30 ∷ 0x01 ∷ 0x00 ∷ [])
+    ∷ pointers 0x1001 0x2001
+    ∷ clocks 21
+    ∷ enabled true
+    ∷ status 0x3B
+    ∷ clocks 1
+    ∷ enabled false
+    ∷ status 0x1B
+    ∷ counts 4 0 28
+    ∷ memory 0x2000 (0xA1 ∷ 0xE2 ∷ [])
+    ∷ expect 0x6B (0x1B ∷ 0x01 ∷ 0x00 ∷ 0x01 ∷ 0x10 ∷ 0x01 ∷ 0x20 ∷ [])
+    ∷ [])
+    -- mode in a wait: after WR4 the slot stays burst, and the next is continuous
+    ∷ row "mode in a wait"
+    (send 0x6B (program 0x1000 2 (0x22 ∷ 0x01 ∷ []) 0xCD 0x2000 0x82)
+    ∷ clocks 10
+    ∷ send 0x6B (0xA1 ∷ [])
+    ∷ clocks 22
+    ∷ counts 4 0 28
+    ∷ clocks 32
+    ∷ counts 8 28 28
+    ∷ enabled false
+    ∷ [])
+    -- Load in a wait: the counter becomes 0, the pointers reload, and the wait runs on
+    ∷ row "Load in a wait"
+    (send 0x6B (program 0x1000 3 (0x22 ∷ 0x01 ∷ []) 0xCD 0x2000 0x82)
+    ∷ clocks 10
+    ∷ send 0x6B (0xCF ∷ [])
+    ∷ counter 0
+    ∷ pointers 0x1000 0x2000
+    ∷ clocks 117
+    ∷ enabled true
+    ∷ clocks 1
+    ∷ enabled false
+    ∷ counts 16 0 112
+    ∷ memory 0x2000 (0xA1 ∷ 0xA2 ∷ 0xA3 ∷ 0xE4 ∷ [])
+    ∷ expect 0x6B (0x1B ∷ 0x03 ∷ 0x00 ∷ 0x03 ∷ 0x10 ∷ 0x03 ∷ 0x20 ∷ [])
+    ∷ [])
+    -- Continue in a wait: the counter becomes 0, the pointers stay, and the wait runs on
+    ∷ row "Continue in a wait"
+    (send 0x6B (program 0x1000 3 (0x22 ∷ 0x01 ∷ []) 0xCD 0x2000 0x82)
+    ∷ clocks 10
+    ∷ send 0x6B (0xD3 ∷ [])
+    ∷ counter 0
+    ∷ pointers 0x1001 0x2001
+    ∷ clocks 117
+    ∷ enabled true
+    ∷ clocks 1
+    ∷ enabled false
+    ∷ counts 16 0 112
+    ∷ memory 0x2000 (0xA1 ∷ 0xA2 ∷ 0xA3 ∷ 0xA4 ∷ 0xE5 ∷ [])
+    ∷ [])
+    -- Disable in a wait: the wait is dropped; Enable goes on with a slot of its own
+    ∷ row "Disable in a wait"
+    (send 0x6B (program 0x1000 3 (0x22 ∷ 0x01 ∷ []) 0xCD 0x2000 0x82)
+    ∷ clocks 10
+    ∷ send 0x6B (0x83 ∷ [])
+    ∷ enabled false
+    ∷ status 0x3B
+    ∷ clocks 54
+    ∷ counts 4 0 60
+    ∷ memory 0x2000 (0xA1 ∷ 0xE2 ∷ [])
+    ∷ send 0x6B (0x87 ∷ [])
+    ∷ enabled true
+    ∷ status 0x3B
+    ∷ clocks 4
+    ∷ memory 0x2000 (0xA1 ∷ 0xA2 ∷ 0xE3 ∷ [])
+    ∷ counts 8 0 60
+    ∷ expect 0x6B (0x3B ∷ 0x02 ∷ [])
+    ∷ [])
+    -- Disable in the last wait: E stays set until an Enable clears it
+    ∷ row "Disable in the last wait"
+    (send 0x6B (program 0x1000 1 (0x22 ∷ 0x01 ∷ []) 0xCD 0x2000 0x82)
+    ∷ clocks 31
+    ∷ status 0x3B
+    ∷ enabled true
+    ∷ send 0x6B (0x83 ∷ [])
+    ∷ enabled false
+    ∷ status 0x3B
+    ∷ send 0x6B (0x87 ∷ [])
+    ∷ enabled false
+    ∷ status 0x1B
+    ∷ expect 0x6B (0x1B ∷ 0x01 ∷ [])
+    ∷ [])
+    -- Reset in a wait: disabled, cycles 4, prescaler 0, no restart, status 3A, mask 7F; pointers, counter and length stay
+    ∷ row "Reset in a wait"
+    (send 0x6B (program 0x1000 3 (0x22 ∷ 0x01 ∷ []) 0xCD 0x2000 0xA2)
+    ∷ clocks 10
+    ∷ send 0x6B (0xBB ∷ 0x02 ∷ 0xBF ∷ 0xC3 ∷ [])
+    ∷ enabled false
+    ∷ status 0x3A
+    ∷ pointers 0x1001 0x2001
+    ∷ counter 1
+    ∷ expect 0x6B (0x3A ∷ 0x01 ∷ 0x00 ∷ 0x01 ∷ 0x10 ∷ 0x01 ∷ 0x20 ∷ [])
+    ∷ send 0x6B (0x87 ∷ [])
+    ∷ clocks 7
+    ∷ counter 1
+    ∷ clocks 1
+    ∷ counter 2
+    ∷ clocks 7
+    ∷ enabled true
+    ∷ clocks 1
+    ∷ enabled false
+    ∷ status 0x1B
+    ∷ counts 20 0 6
+    ∷ memory 0x2000 (0xA1 ∷ 0xA2 ∷ 0xA3 ∷ 0xE4 ∷ [])
+    ∷ [])
+    -- compatibility mode in a wait: an ignored byte on the other port makes the block one longer
+    ∷ row "compatibility mode in a wait"
+    (send 0x6B (program 0x1000 1 (0x22 ∷ 0x01 ∷ []) 0xCD 0x2000 0x82)
+    ∷ clocks 10
+    ∷ count 1
+    ∷ send 0x0B (0x86 ∷ [])
+    ∷ count 2
+    ∷ clocks 22
+    ∷ enabled true
+    ∷ clocks 31
+    ∷ enabled true
+    ∷ clocks 1
+    ∷ enabled false
+    ∷ counts 8 0 56
+    ∷ memory 0x2000 (0xA1 ∷ 0xA2 ∷ 0xE3 ∷ [])
+    ∷ [])
+    ∷ modeByParameter
+    -- length 0 in a wait: auto restart with a block count of 0 disables at the end of the slot
+    ∷ row "length 0 in a wait"
+    (send 0x6B (program 0x1000 2 (0x22 ∷ 0x01 ∷ []) 0xCD 0x2000 0xA2)
+    ∷ clocks 10
+    ∷ send 0x6B (0x65 ∷ 0x00 ∷ 0x00 ∷ [])
+    ∷ clocks 21
+    ∷ enabled true
+    ∷ clocks 1
+    ∷ enabled false
+    ∷ status 0x1B
+    ∷ counts 4 0 28
+    ∷ counter 1
+    ∷ expect 0x6B (0x1B ∷ 0x01 ∷ [])
+    ∷ send 0x6B (0x65 ∷ 0x01 ∷ 0x00 ∷ 0xD3 ∷ 0x87 ∷ [])
+    ∷ clocks 32
+    ∷ enabled true
+    ∷ counter 0
+    ∷ [])
+    -- writes to I/O: the latch at the port's address is set, also the device's own, and nothing else
+    ∷ row "writes to I/O"
+    (latch 0x6A (0xE1 ∷ 0xE2 ∷ 0xE3 ∷ [])
+    ∷ fill 0x6A (0xD1 ∷ 0xD2 ∷ 0xD3 ∷ [])
+    ∷ send 0x6B (0x83 ∷ 0x7D ∷ 0x00 ∷ 0x10 ∷ 0x02 ∷ 0x00 ∷ 0x54 ∷ 0x02 ∷ 0x68 ∷ 0x02 ∷ 0xAD ∷ 0x6B ∷ 0x00 ∷ 0x82 ∷ 0xCF ∷ 0x87 ∷ [])
+    ∷ clocks 4
+    ∷ latches 0x6A (0xE1 ∷ 0xA1 ∷ 0xE3 ∷ [])
+    ∷ clocks 4
+    ∷ latches 0x6A (0xE1 ∷ 0xA2 ∷ 0xE3 ∷ [])
+    ∷ memory 0x6A (0xD1 ∷ 0xD2 ∷ 0xD3 ∷ [])
+    ∷ pointers 0x1002 0x006B
+    ∷ enabled false
+    ∷ counts 8 0 0
+    ∷ [])
+    -- B to A, I/O to memory: B is the source and increments; A is the destination and decrements
+    ∷ row "B to A, I/O to memory"
+    (latch 0x2FFE (0xD1 ∷ 0xD2 ∷ 0xD3 ∷ 0xD4 ∷ [])
+    ∷ latch 0x1000 (0xF1 ∷ 0xF2 ∷ 0xF3 ∷ [])
+    ∷ send 0x6B (0x83 ∷ 0x79 ∷ 0x02 ∷ 0x10 ∷ 0x03 ∷ 0x00 ∷ 0x44 ∷ 0x02 ∷ 0x58 ∷ 0x02 ∷ 0xAD ∷ 0xFE ∷ 0x2F ∷ 0x82 ∷ 0xCF ∷ 0x87 ∷ [])
+    ∷ clocks 12
+    ∷ memory 0x1000 (0xD3 ∷ 0xD2 ∷ 0xD1 ∷ 0xA4 ∷ [])
+    ∷ latches 0x2FFE (0xD1 ∷ 0xD2 ∷ 0xD3 ∷ 0xD4 ∷ [])
+    ∷ latches 0x1000 (0xF1 ∷ 0xF2 ∷ 0xF3 ∷ [])
+    ∷ pointers 0x0FFF 0x3001
+    ∷ enabled false
+    ∷ expect 0x6B (0x1B ∷ 0x03 ∷ 0x00 ∷ 0xFF ∷ 0x0F ∷ 0x01 ∷ 0x30 ∷ [])
+    ∷ [])
+    -- decrement and fixed: a pointer goes from 0000 to FFFF; bits 11 keep it fixed
+    ∷ row "decrement and fixed"
+    (fill 0 (0xC1 ∷ [])
+    ∷ fill 0xFFFF (0xC2 ∷ [])
+    ∷ send 0x6B (0x83 ∷ 0x7D ∷ 0x00 ∷ 0x00 ∷ 0x02 ∷ 0x00 ∷ 0x44 ∷ 0x02 ∷ 0x70 ∷ 0x02 ∷ 0xAD ∷ 0x00 ∷ 0x20 ∷ 0x82 ∷ 0xCF ∷ 0x87 ∷ [])
+    ∷ clocks 4
+    ∷ memory 0x2000 (0xC1 ∷ 0xE2 ∷ [])
+    ∷ pointers 0xFFFF 0x2000
+    ∷ clocks 4
+    ∷ memory 0x2000 (0xC2 ∷ 0xE2 ∷ [])
+    ∷ pointers 0xFFFE 0x2000
+    ∷ send 0x6B (0x0D ∷ 0x05 ∷ 0xCF ∷ [])
+    ∷ pointers 0x0005 0x2000
+    ∷ [])
+    -- reading by mask: bit 7 of the mask is dropped, reading goes round, and an empty mask gives the status
+    ∷ row "reading by mask"
+    (send 0x6B sheet
+    ∷ clocks 16
+    ∷ send 0x6B (0xBB ∷ 0x8A ∷ [])
+    ∷ expect 0x6B (0x04 ∷ 0x04 ∷ 0x04 ∷ [])
+    ∷ send 0x6B (0xBB ∷ 0x16 ∷ [])
+    ∷ expect 0x6B (0x04 ∷ 0x00 ∷ [])
+    ∷ send 0x6B (0xA7 ∷ [])
+    ∷ expect 0x6B (0x04 ∷ 0x00 ∷ 0x10 ∷ 0x04 ∷ [])
+    ∷ send 0x6B (0xBB ∷ 0x80 ∷ [])
+    ∷ expect 0x6B (0x1B ∷ 0x1B ∷ [])
+    ∷ send 0x6B (0x8B ∷ [])
+    ∷ expect 0x6B (0x3A ∷ [])
+    ∷ [])
+    -- a status read waiting: it comes once and leaves the position, survives A7, BB and the mask, and is used up by an empty one
+    ∷ row "a status read waiting"
+    (send 0x6B sheet
+    ∷ clocks 16
+    ∷ expect 0x6B (0x1B ∷ 0x04 ∷ [])
+    ∷ send 0x6B (0xBF ∷ [])
+    ∷ expect 0x6B (0x1B ∷ 0x00 ∷ 0x04 ∷ [])
+    ∷ send 0x6B (0xBF ∷ 0xA7 ∷ [])
+    ∷ expect 0x6B (0x1B ∷ 0x1B ∷ 0x04 ∷ [])
+    ∷ send 0x6B (0xBF ∷ 0xBB ∷ 0x18 ∷ [])
+    ∷ expect 0x6B (0x1B ∷ 0x04 ∷ 0x10 ∷ 0x04 ∷ [])
+    ∷ send 0x6B (0xBF ∷ 0xBB ∷ 0x00 ∷ [])
+    ∷ expect 0x6B (0x1B ∷ [])
+    ∷ send 0x6B (0xBB ∷ 0x02 ∷ [])
+    ∷ expect 0x6B (0x04 ∷ 0x04 ∷ [])
+    ∷ [])
+    -- timing: codes 11 and 01 with other bits set, WR1 and WR2 without a timing byte, C7 and CB; the prescaler stays
+    ∷ row "timing"
+    (send 0x6B (0x83 ∷ 0x7D ∷ 0x00 ∷ 0x10 ∷ 0x04 ∷ 0x00 ∷ 0x54 ∷ 0xFF ∷ 0x50 ∷ 0x5D ∷ 0xAD ∷ 0x00 ∷ 0x20 ∷ 0x82 ∷ 0xCF ∷ 0x87 ∷ [])
+    ∷ clocks 6
+    ∷ counter 0
+    ∷ clocks 1
+    ∷ counter 1
+    ∷ sendRefused 0x6B 0x83 3
+    ∷ clocks 21
+    ∷ enabled false
+    ∷ counts 28 0 0
+    ∷ send 0x6B (0x54 ∷ 0xFE ∷ 0x50 ∷ 0x22 ∷ 0x01 ∷ 0x14 ∷ 0x10 ∷ 0xD3 ∷ 0x87 ∷ [])
+    ∷ clocks 4
+    ∷ counter 1
+    ∷ clocks 28
+    ∷ counter 1
+    ∷ clocks 96
+    ∷ enabled false
+    ∷ counts 44 112 0
+    ∷ send 0x6B (0xC7 ∷ 0xD3 ∷ 0x87 ∷ [])
+    ∷ clocks 5
+    ∷ counter 0
+    ∷ clocks 1
+    ∷ counter 1
+    ∷ clocks 122
+    ∷ enabled false
+    ∷ send 0x6B (0xCB ∷ 0xD3 ∷ 0x87 ∷ [])
+    ∷ clocks 7
+    ∷ counter 0
+    ∷ clocks 1
+    ∷ counter 1
+    ∷ clocks 24
+    ∷ counts 76 240 0
+    ∷ [])
+    -- WR3 and WR4: bit 6 of WR3 enables or disables whatever its other bits are; WR4 of 11 and of 00 is continuous
+    ∷ row "WR3 and WR4"
+    (send 0x6B (program 0x1000 1 (0x22 ∷ 0x01 ∷ []) 0xED 0x2000 0x82)
+    ∷ sendRefused 0x6B 0x83 3
+    ∷ clocks 4
+    ∷ sendRefused 0x6B 0x83 3
+    ∷ clocks 28
+    ∷ counts 4 28 0
+    ∷ send 0x6B (0x91 ∷ 0xD3 ∷ 0xFC ∷ [])
+    ∷ enabled true
+    ∷ clocks 32
+    ∷ counts 8 56 0
+    ∷ send 0x6B (0xCD ∷ 0x00 ∷ 0x20 ∷ 0xCF ∷ 0xC0 ∷ [])
+    ∷ clocks 4
+    ∷ enabled true
+    ∷ send 0x6B (0xBC ∷ [])
+    ∷ enabled false
+    ∷ counter 1
+    ∷ status 0x1B
+    ∷ [])
+    -- one byte of a number: each parameter leaves the other byte as it was
+    ∷ row "one byte of a number"
+    (send 0x6B (0x7D ∷ 0x34 ∷ 0x12 ∷ 0x78 ∷ 0x56 ∷ 0x8D ∷ 0xBC ∷ 0x9A ∷ 0xCF ∷ [])
+    ∷ pointers 0x1234 0x9ABC
+    ∷ count 0x5678
+    ∷ send 0x6B (0x0E ∷ 0xFF ∷ 0xCF ∷ [])
+    ∷ pointers 0x12FF 0x9ABC
+    ∷ send 0x6B (0x17 ∷ 0xEE ∷ 0xCF ∷ [])
+    ∷ pointers 0xEEFF 0x9ABC
+    ∷ send 0x6B (0x25 ∷ 0xDD ∷ [])
+    ∷ count 0x56DD
+    ∷ send 0x6B (0x45 ∷ 0xCC ∷ [])
+    ∷ count 0xCCDD
+    ∷ send 0x6B (0x85 ∷ 0xBB ∷ 0xCF ∷ [])
+    ∷ pointers 0xEEFF 0x9ABB
+    ∷ send 0x6B (0x89 ∷ 0xAA ∷ 0xCF ∷ [])
+    ∷ pointers 0xEEFF 0xAABB
+    ∷ send 0x6B (0x4D ∷ 0x00 ∷ 0x00 ∷ 0xCF ∷ [])
+    ∷ pointers 0xEE00 0xAABB
+    ∷ count 0x00DD
+    ∷ [])
+    -- refused grants: 4 comes before 5 and 5 before 6; the sum of the counts may reach its limit and not pass it
+    ∷ row "refused grants"
+    (borrow 65535 65536 1 4
+    ∷ borrow 65537 65536 0 4
+    ∷ borrow 0 0 1 4
+    ∷ borrow 65536 65535 1 5
+    ∷ borrow 65536 65537 0 5
+    ∷ supposeCounts 18446744073709551600 10 5
+    ∷ borrow 65536 65536 0 0
+    ∷ borrow 65536 65536 1 6
+    ∷ borrow 65536 0 1 5
+    ∷ clocks 0
+    ∷ counts 18446744073709551600 10 5
+    ∷ send 0x6B sheet
+    ∷ clocksRefused 16 6
+    ∷ borrow 65535 65536 16 4
+    ∷ borrow 65536 65535 16 5
+    ∷ counts 18446744073709551600 10 5
+    ∷ counter 0
+    ∷ memory 0x2000 (0xE1 ∷ [])
+    ∷ supposeCounts 18446744073709551600 10 6
+    ∷ borrow 65535 0 1 1
+    ∷ sendRefused 0x006C 0x83 1
+    ∷ expectRefused 0x6B 1
+    ∷ supposeCounts 18446744073709551600 10 2
+    ∷ borrow 65536 65536 4 6
+    ∷ borrow 65536 65536 3 0
+    ∷ [])
+    -- power-on: the seven registers, and a byte moved with no register written but WR4
+    ∷ row "power-on"
+    (fill 0 (0xA1 ∷ 0xA2 ∷ [])
+    ∷ fill 0x2000 (0xE1 ∷ 0xE2 ∷ [])
+    ∷ count 0
+    ∷ counts 0 0 0
+    ∷ expect 0x6B (0x3A ∷ 0x00 ∷ 0x00 ∷ 0x00 ∷ 0x00 ∷ 0x00 ∷ 0x00 ∷ 0x3A ∷ [])
+    ∷ send 0x0B (0x8D ∷ 0x00 ∷ 0x20 ∷ 0xCF ∷ 0x87 ∷ [])
+    ∷ pointers 0x0000 0x2000
+    ∷ clocks 7
+    ∷ counter 0
+    ∷ clocks 1
+    ∷ enabled false
+    ∷ counts 8 0 0
+    ∷ memory 0x2000 (0xA1 ∷ 0xE2 ∷ [])
+    ∷ pointers 0x0001 0x2001
+    ∷ [])
+    -- power-on: continuous, with no WR4 written
+    ∷ row "power-on: continuous"
+    (send 0x0B (0x50 ∷ 0x20 ∷ 0x01 ∷ 0x87 ∷ [])
+    ∷ clocks 32
+    ∷ counts 8 24 0
+    ∷ [])
+    -- Enable in a wait: nothing, also after the last byte; a finished block stays so whatever auto restart says
+    ∷ row "Enable in a wait"
+    (send 0x6B (program 0x1000 1 (0x22 ∷ 0x01 ∷ []) 0xCD 0x2000 0x82)
+    ∷ clocks 10
+    ∷ send 0x6B (0x87 ∷ [])
+    ∷ status 0x3B
+    ∷ enabled true
+    ∷ clocks 22
+    ∷ enabled false
+    ∷ counts 4 0 28
+    ∷ send 0x6B (0xA2 ∷ 0x87 ∷ [])
+    ∷ enabled false
+    ∷ status 0x1B
+    ∷ counter 1
+    ∷ send 0x6B (0xD3 ∷ [])
+    ∷ status 0x1B
+    ∷ expect 0x6B (0x1B ∷ 0x00 ∷ [])
+    ∷ [])
+    -- Enable in the other mode: the mode is set before Enable looks at the block
+    ∷ row "Enable in the other mode"
+    (send 0x6B (program 0x1000 0 (0x02 ∷ []) 0xAD 0x2000 0x82)
+    ∷ enabled false
+    ∷ send 0x0B (0x87 ∷ [])
+    ∷ enabled true
+    ∷ clocks 4
+    ∷ expect 0x0B (0x1B ∷ 0x01 ∷ [])
+    ∷ [])
+    -- auto restart in burst: one byte; the new slot holds the bus
+    ∷ row "auto restart in burst"
+    (send 0x6B (program 0x1000 1 (0x22 ∷ 0x01 ∷ []) 0xCD 0x2000 0xA2)
+    ∷ clocks 31
+    ∷ counter 1
+    ∷ pointers 0x1001 0x2001
+    ∷ status 0x3B
+    ∷ clocks 1
+    ∷ enabled true
+    ∷ counter 0
+    ∷ pointers 0x1000 0x2000
+    ∷ status 0x1B
+    ∷ sendRefused 0x6B 0x83 3
+    ∷ expectRefused 0x6B 3
+    ∷ [])
+    -- timing in a wait: the slot keeps its bus time, the next has the new one; code 00 is 4 clocks
+    ∷ row "timing in a wait"
+    (send 0x6B (program 0x1000 2 (0x22 ∷ 0x01 ∷ []) 0xCD 0x2000 0x82)
+    ∷ clocks 4
+    ∷ send 0x6B (0x54 ∷ 0x00 ∷ 0x50 ∷ 0x00 ∷ [])
+    ∷ send 0x6B (0x8B ∷ 0xA7 ∷ 0xBF ∷ 0xBB ∷ 0x7F ∷ 0xC7 ∷ 0xCB ∷ [])
+    ∷ status 0x3A
+    ∷ clocks 28
+    ∷ counter 1
+    ∷ counts 4 0 28
+    ∷ clocks 7
+    ∷ counter 1
+    ∷ clocks 1
+    ∷ counter 2
+    ∷ counts 12 0 28
+    ∷ [])
+    -- Reset after a block from B to A, I/O, in burst and in Zilog mode: all that it does not name stays
+    ∷ row "Reset after a block"
+    (fill 0x3000 (0xD1 ∷ 0xD2 ∷ 0xD3 ∷ [])
+    ∷ latch 0x1000 (0xE1 ∷ 0xE2 ∷ 0xE3 ∷ [])
+    ∷ send 0x0B (0x83 ∷ 0x79 ∷ 0x02 ∷ 0x10 ∷ 0x01 ∷ 0x00 ∷ 0x4C ∷ 0x02 ∷ 0x60 ∷ 0x22 ∷ 0x01 ∷ 0xCD ∷ 0x00 ∷ 0x30 ∷ 0x82 ∷ 0xCF ∷ 0x87 ∷ [])
+    ∷ clocks 64
+    ∷ enabled false
+    ∷ expect 0x0B (0x1B ∷ [])
+    ∷ send 0x0B (0xC3 ∷ [])
+    ∷ count 2
+    ∷ expect 0x0B (0x3A ∷ 0x02 ∷ 0x00 ∷ 0x00 ∷ 0x10 ∷ 0x00 ∷ 0x30 ∷ [])
+    ∷ fill 0x3000 (0xD4 ∷ [])
+    ∷ send 0x0B (0xCF ∷ 0x87 ∷ [])
+    ∷ pointers 0x1002 0x3000
+    ∷ clocks 8
+    ∷ latches 0x1000 (0xE1 ∷ 0xD1 ∷ 0xD4 ∷ [])
+    ∷ pointers 0x1001 0x3000
+    ∷ clocks 8
+    ∷ enabled false
+    ∷ send 0x0B (0x60 ∷ 0x20 ∷ 0x01 ∷ 0xD3 ∷ 0x87 ∷ [])
+    ∷ clocks 8
+    ∷ send 0x0B (0x83 ∷ [])
+    ∷ [])
+    -- bytes that do nothing: the 24 that select no register, and the commands not listed, disabled and in a wait
+    ∷ row "bytes that do nothing"
+    (send 0x6B (program 0x1000 3 (0x22 ∷ 0x01 ∷ []) 0xCD 0x2000 0x9A)
+    ∷ clocks 10
+    ∷ send 0x6B (0xBA ∷ [])
+    ∷ expect 0x6B (0x3B ∷ [])
+    ∷ send 0x6B idle
+    ∷ enabled true
+    ∷ expect 0x6B (0x01 ∷ [])
+    ∷ send 0x6B (0x83 ∷ [])
+    ∷ send 0x6B idle
+    ∷ enabled false
+    ∷ expect 0x6B (0x00 ∷ 0x01 ∷ 0x10 ∷ 0x01 ∷ 0x20 ∷ 0x3B ∷ [])
+    ∷ send 0x6B (0x87 ∷ [])
+    ∷ clocks 64
+    ∷ enabled true
+    ∷ counts 12 0 62
+    ∷ counter 0
+    ∷ [])
+    -- ports: only the low byte counts; a refused call sets no mode and moves no position
+    ∷ row "ports"
+    (sendRefused 0x6B00 0x83 2
+    ∷ expectRefused 0x0B0C 2
+    ∷ send 0x126B sheet
+    ∷ count 4
+    ∷ sendRefused 0x0B 0x83 3
+    ∷ expectRefused 0x0B 3
+    ∷ count 4
+    ∷ clocks 16
+    ∷ expect 0xFF6B (0x1B ∷ [])
+    ∷ expectRefused 0x006C 2
+    ∷ expect 0xFF0B (0x04 ∷ [])
+    ∷ send 0x340B (0x83 ∷ [])
+    ∷ count 5
+    ∷ [])
+    -- what the core holds: the codes of the pending parameters, the step as written, the read position
+    ∷ row "what the core holds"
+    (send 0x6B (0x7D ∷ [])
+    ∷ figure (λ c. c .pending .first) 1
+    ∷ figure (λ c. c .pending .second) 2
+    ∷ figure (λ c. c .pending .third) 3
+    ∷ figure (λ c. c .pending .fourth) 4
+    ∷ send 0x6B (0x00 ∷ 0x00 ∷ 0x00 ∷ 0x00 ∷ 0x74 ∷ [])
+    ∷ figure (λ c. c .a .step) 3
+    ∷ figure (λ c. c .pending .first) 5
+    ∷ send 0x6B (0x00 ∷ 0x60 ∷ [])
+    ∷ figure (λ c. c .b .step) 2
+    ∷ figure (λ c. c .pending .first) 6
+    ∷ send 0x6B (0x20 ∷ [])
+    ∷ figure (λ c. c .pending .first) 7
+    ∷ send 0x6B (0xFF ∷ 0x50 ∷ 0x02 ∷ 0xCB ∷ 0x54 ∷ 0x02 ∷ 0xCB ∷ 0x54 ∷ 0x01 ∷ 0x8D ∷ [])
+    ∷ figure (λ c. slotLength (c .control .prescaler) 4) 8160
+    ∷ figure (λ c. c .a .cycle) 3
+    ∷ figure (λ c. c .b .cycle) 4
+    ∷ figure (λ c. c .pending .first) 8
+    ∷ figure (λ c. c .pending .second) 9
+    ∷ send 0x6B (0x00 ∷ 0x00 ∷ [])
+    ∷ expect 0x6B (0x3A ∷ 0x00 ∷ [])
+    ∷ send 0x6B (0xBB ∷ [])
+    ∷ figure (λ c. c .pending .first) 10
+    ∷ figure (λ c. c .readback .position) 2
+    ∷ send 0x6B (0x00 ∷ [])
+    ∷ figure (λ c. c .readback .position) 0
+    ∷ expect 0x6B (0x3A ∷ [])
+    ∷ figure (λ c. c .readback .position) 0
+    ∷ [])
+    -- moves: the fourth clock of a slot
+    ∷ row "moves"
+    (fill 0x3000 (0xD1 ∷ [])
+    ∷ send 0x0B (0x83 ∷ 0x79 ∷ 0x02 ∷ 0x10 ∷ 0x00 ∷ 0x00 ∷ 0x4C ∷ 0x02 ∷ 0x60 ∷ 0x02 ∷ 0xAD ∷ 0x00 ∷ 0x30 ∷ 0x82 ∷ 0xCF ∷ 0x87 ∷ [])
+    ∷ clocks 3
+    ∷ nextMove 0x3000 false 0x1002 true 0xD1
+    ∷ [])
+    -- validity of a core with no slot: each bound from both sides
+    ∷ row "validity"
+    (changed (λ c. withA (withCycle 1 (c .a)) c) false
+    ∷ changed (λ c. withA (withCycle 2 (c .a)) c) true
+    ∷ changed (λ c. withA (withCycle 5 (c .a)) c) false
+    ∷ changed (λ c. withB (withCycle 1 (c .b)) c) false
+    ∷ changed (λ c. withB (withCycle 5 (c .b)) c) false
+    ∷ changed (λ c. withBlock (withCounter 65536 (c .block)) c) true
+    ∷ changed (λ c. withBlock (withCounter 65537 (c .block)) c) false
+    ∷ changed (λ c. withReadback (withMask 127 (c .readback)) c) true
+    ∷ changed (λ c. withReadback (withMask 128 (c .readback)) c) false
+    ∷ changed (λ c. withReadback (withPosition 6 (c .readback)) c) true
+    ∷ changed (λ c. withReadback (withPosition 7 (c .readback)) c) false
+    ∷ changed (awaiting 1 2 3 4) true
+    ∷ changed (awaiting 1 3 4 0) true
+    ∷ changed (awaiting 2 4 0 0) true
+    ∷ changed (awaiting 8 9 0 0) true
+    ∷ changed (awaiting 7 0 0 0) true
+    ∷ changed (awaiting 10 0 0 0) true
+    ∷ changed (awaiting 11 0 0 0) false
+    ∷ changed (awaiting 6 7 0 0) false
+    ∷ changed (awaiting 4 5 0 0) false
+    ∷ changed (awaiting 9 8 0 0) false
+    ∷ changed (awaiting 1 1 0 0) false
+    ∷ changed (awaiting 2 1 0 0) false
+    ∷ changed (awaiting 1 8 0 0) false
+    ∷ changed (awaiting 0 1 0 0) false
+    ∷ changed (awaiting 1 0 2 0) false
+    ∷ changed (awaiting 1 2 2 0) false
+    ∷ changed (awaiting 1 2 0 3) false
+    ∷ changed (awaiting 1 2 4 3) false
+    ∷ changed (inSlot 0 4 0 false) false
+    ∷ changed (inSlot 0 0 4 false) false
+    ∷ changed (inSlot 0 0 0 true) false
+    ∷ changed (inSlot 4 4 32 true) false
+    ∷ [])
+    -- validity of an enabled core: the slot's figures, and the counter below the count until the byte has moved
+    ∷ row "validity in a slot"
+    (send 0x6B (program 0x1000 3 (0x02 ∷ []) 0xAD 0x2000 0x82)
+    ∷ changed (inSlot 0 4 0 false) false
+    ∷ changed (inSlot 1 4 4 false) true
+    ∷ changed (inSlot 1 8 8 true) true
+    ∷ changed (inSlot 1 3 3 false) false
+    ∷ changed (inSlot 1 9 9 false) false
+    ∷ changed (inSlot 1 4 5 false) false
+    ∷ changed (inSlot 1 4 0 false) false
+    ∷ changed (inSlot 1 4 48 false) false
+    ∷ changed (inSlot 31 4 32 false) true
+    ∷ changed (inSlot 32 4 32 false) false
+    ∷ changed (inSlot 8159 8 8160 true) true
+    ∷ changed (inSlot 1 4 8192 false) false
+    ∷ changed (λ c. withBlock (withCounter 3 (c .block)) c) false
+    ∷ changed (λ c. withBlock (withCounter 3 (c .block)) (inSlot 3 4 32 false c)) false
+    ∷ changed (λ c. withBlock (withCounter 3 (c .block)) (inSlot 4 4 32 false c)) true
+    ∷ [])
+    -- auto restart turned off in a wait: the block ends
+    ∷ row "auto restart turned off"
+    (send 0x6B (program 0x1000 1 (0x22 ∷ 0x01 ∷ []) 0xCD 0x2000 0xA2)
+    ∷ clocks 10
+    ∷ send 0x6B (0x82 ∷ [])
+    ∷ clocks 21
+    ∷ enabled true
+    ∷ clocks 1
+    ∷ enabled false
+    ∷ counter 1
+    ∷ expect 0x6B (0x1B ∷ 0x01 ∷ [])
+    ∷ [])
+    -- registers in another order: WR4 before WR0, a high address, and a read position that a block leaves
+    ∷ row "registers in another order"
+    (expect 0x6B (0x3A ∷ 0x00 ∷ [])
+    ∷ send 0x6B (0x83 ∷ 0xAD ∷ 0xFF ∷ 0xA0 ∷ 0x54 ∷ 0x02 ∷ 0x50 ∷ 0x22 ∷ 0x01 ∷ 0x7D ∷ 0x00 ∷ 0x10 ∷ 0x01 ∷ 0x00 ∷ 0x82 ∷ 0xCF ∷ 0x87 ∷ [])
+    ∷ clocks 31
+    ∷ enabled true
+    ∷ clocks 1
+    ∷ enabled false
+    ∷ counts 4 28 0
+    ∷ memory 0xA0FF (0xA1 ∷ 0x00 ∷ [])
+    ∷ pointers 0x1001 0xA100
+    ∷ expect 0x6B (0x00 ∷ 0x01 ∷ 0x10 ∷ 0x00 ∷ 0xA1 ∷ [])
+    ∷ [])
+    ∷ []
+
+-- every action of every row is answered and seen as the table says
+abbrev pub Right : Type 0
+Right = failures start table ≡ []

@@ -1,0 +1,1 @@
+// The worked examples of the rules: specs and proofs, no function.

@@ -1,0 +1,28 @@
+use borrow.Author.Tests.{lt-leb, le-leb}
+use Rattle.rules.specs.Validity.{total, most64}
+use native.Mathlib.Omega.{arith}
+use mathlib.Core.Path.{sym}
+use borrow.Author.Needs.{needs}
+use Rattle.parts.proofs.valid.fits.Statement.{statement}
+use Rattle.parts.proofs.valid.fits.Tie as tie
+
+sub-if1 : tie.Need-sub-if1
+sub-if1 c = search needs
+
+returns : tie.Need-returns
+returns c = sym (lt-leb (total (c .before .before .before .args .k)) most64 (omega arith))
+
+add-both : tie.Need-add-both
+add-both c = search needs
+
+sub-if2 : tie.Need-sub-if2
+sub-if2 c = search needs
+
+returns-2 : tie.Need-returns-2
+returns-2 c = sym (lt-leb (total (c .before .before .before .before .before .before .args .k)) most64 (omega arith))
+
+returns-3 : tie.Need-returns-3
+returns-3 c = sym (le-leb (total (c .before .before .before .before .before .before .args .k)) most64 (omega arith))
+
+pub fits-spec : {M : Type 1} → statement M
+fits-spec = tie.close (tie.spec sub-if1 returns add-both sub-if2 returns-2 returns-3)

@@ -1,0 +1,93 @@
+-- The pending parameters: a valid sequence has codes of at most 10, and all of these are tried; each of the 23 is asked for by
+-- some byte.
+-- Assumes nothing.
+use Prim.Native.Nat.{ℕ, _≤_}
+use native.Mathlib.Omega.{arith}
+use mathlib.Core.Path.{_≡_, refl, sym, _∙_, subst}
+use mathlib.Core.Bool.{Bool, true, false}
+use mathlib.Core.List.{List, [], _∷_}
+use borrow.Author.Tests.{leb-true, eqb-true}
+use Rattle.rules.specs.Choice.{pick}
+use Rattle.rules.specs.Pending.{follows, validPending}
+use Rattle.rules.specs.Exactly.{Awaited, byWR0, byWR1, byWR2, byWR4, byTiming, byMaskCommand, tail, codes, sequences, sameCodes, among, distinct, PendingExact}
+use Rattle.rules.specs.Opened.{opened}
+use Rattle.rules.specs.declared.Pending.{Pending}
+use Rattle.rules.proofs.Choice.{clash, pick-true, all-true, any-cases, any-none}
+use Rattle.rules.proofs.Trying.{allBelow, below-at}
+use Rattle.rules.proofs.Parameters.{wr0-valid, wr1-valid, wr2-valid, wr4-valid, prescaler-alone, mask-valid, follows-small, rest-valid}
+
+-- every sequence of codes up to 10, each following the one before it, is one of them
+tried4 : ℕ → ℕ → ℕ → ℕ → Bool
+tried4 x y z w = pick (follows z w) (among (codes x y z w) sequences) true
+
+tried3 : ℕ → ℕ → ℕ → Bool
+tried3 x y z = pick (follows y z) (allBelow 11 (tried4 x y z)) true
+
+tried2 : ℕ → ℕ → Bool
+tried2 x y = pick (follows x y) (allBelow 11 (tried3 x y)) true
+
+all-tried : allBelow 11 (λ x. allBelow 11 (tried2 x)) ≡ true
+unfolding opened allBelow tried4 tried3 tried2 among
+all-tried = refl
+
+valid-listed : (p : Pending) → validPending p ≡ true → among p sequences ≡ true
+unfolding validPending tried4 tried3 tried2
+valid-listed p e =
+    let h = all-true _ e in
+    let x : p .first ≤ 10 = leb-true _ _ (h .0) in
+    let y : p .second ≤ 10 = follows-small _ _ (h .1 .0) in
+    let z : p .third ≤ 10 = follows-small _ _ (h .1 .1 .0) in
+    let w : p .fourth ≤ 10 = follows-small _ _ (h .1 .1 .1 .0) in
+    let t1 = below-at 11 (λ x. allBelow 11 (tried2 x)) all-tried (p .first) (omega (arith, x)) in
+    let t2 = sym (pick-true _ _ _ (h .1 .0)) ∙ below-at 11 (tried2 (p .first)) t1 (p .second) (omega (arith, y)) in
+    let t3 = sym (pick-true _ _ _ (h .1 .1 .0)) ∙ below-at 11 (tried3 (p .first) (p .second)) t2 (p .third) (omega (arith, z)) in
+    sym (pick-true _ _ _ (h .1 .1 .1 .0)) ∙ below-at 11 (tried4 (p .first) (p .second) (p .third)) t3 (p .fourth) (omega (arith, w))
+
+-- what holds of each sequence of a list holds of one among them
+abbrev Each : (Pending → Type 0) → List Pending → Type 0
+Each P [] = Unit {0}
+Each P (q ∷ qs) = P q × Each P qs
+
+same-codes : (p q : Pending) → sameCodes p q ≡ true → q ≡ p
+same-codes p q e =
+    let h = all-true _ e in
+    let x : q .first ≡ p .first = sym (eqb-true _ _ (h .0)) in
+    let y : q .second ≡ p .second = sym (eqb-true _ _ (h .1 .0)) in
+    let z : q .third ≡ p .third = sym (eqb-true _ _ (h .1 .1 .0)) in
+    let w : q .fourth ≡ p .fourth = sym (eqb-true _ _ (h .1 .1 .1 .0)) in
+    λ i. codes (x i) (y i) (z i) (w i)
+
+among-each : (P : Pending → Type 0) (p : Pending) (qs : List Pending) → Each P qs → among p qs ≡ true → P p
+unfolding among
+among-each P p [] a e = clash e
+among-each P p (q ∷ qs) a e =
+    any-cases _ _ e (λ h. subst P (same-codes p q h) (a .0)) (λ h. any-cases _ _ h (λ k. among-each P p qs (a .1) k) any-none)
+
+each-awaited : Each Awaited sequences
+unfolding opened
+each-awaited =
+    (byWR0 1 (omega arith) refl, (byWR0 9 (omega arith) refl, (byWR0 17 (omega arith) refl, (byWR0 33 (omega arith) refl, (byWR0 65 (omega arith) refl, (byWR0 25 (omega arith) refl, (byWR0 41 (omega arith) refl, (byWR0 73 (omega arith) refl, (byWR0 49 (omega arith) refl, (byWR0 81 (omega arith) refl, (byWR0 97 (omega arith) refl, (byWR0 57 (omega arith) refl, (byWR0 89 (omega arith) refl, (byWR0 105 (omega arith) refl, (byWR0 113 (omega arith) refl, (byWR0 121 (omega arith) refl, (byWR1 0x44 (omega arith) refl, (byWR2 0x40 (omega arith) refl, (byTiming, (byWR4 0x85 (omega arith) refl, (byWR4 0x89 (omega arith) refl, (byWR4 0x8D (omega arith) refl, (byMaskCommand, tt)))))))))))))))))))))))
+
+listed-valid : (p : Pending) → Awaited p → validPending p ≡ true
+listed-valid _ (byWR0 byte b s) = wr0-valid byte
+listed-valid _ (byWR1 byte b s) = wr1-valid byte
+listed-valid _ (byWR2 byte b s) = wr2-valid byte
+listed-valid _ (byWR4 byte b s) = wr4-valid byte
+listed-valid _ byTiming = prescaler-alone true
+listed-valid _ byMaskCommand = mask-valid
+listed-valid _ (tail p a) = rest-valid p (listed-valid p a)
+
+pub pending-exact : PendingExact
+unfolding opened among distinct
+pending-exact =
+    record {
+      valid = λ p. record { to = λ e. among-each Awaited p sequences each-awaited (valid-listed p e); from = listed-valid p };
+      listed =
+          λ p.
+          record {
+            to = valid-listed p;
+            from = λ e. listed-valid p (among-each Awaited p sequences each-awaited e);
+          };
+      count = refl;
+      once = refl;
+    }

@@ -1,0 +1,43 @@
+-- Laws of lists of calls: a list behind another, a valid device stays valid, and outside changes keep a flat memory's length.
+-- Assumes nothing.
+use Prim.Native.Nat.{ℕ}
+use mathlib.Core.Path.{_≡_, refl, _∙_, ap}
+use mathlib.Core.List.{List, [], _∷_, _++_}
+use lib.ListN.{set, length-set}
+use Rattle.rules.specs.Bytes.{AreBytes}
+use Rattle.rules.specs.Buffers.{Store}
+use Rattle.rules.specs.World.{System}
+use Rattle.rules.specs.Entries.{Outside, poked, Entry, portWrite, portRead, clockGrant, outsideChange, bytesWritten, Answered, Run, enter, run, systemAtPowerOn, PokesKeepLength}
+use Rattle.rules.proofs.Calls.{ValidSystem, stays-valid}
+
+module _ {M C : Type 0} (σ : Store M) (ω : Outside M C) where
+  -- one entry before others
+  pub entry-valid : (e : Entry σ C) (es : List (Entry σ C)) (s : System M) → AreBytes (bytesWritten (e ∷ es)) → ValidSystem s → ValidSystem (enter σ ω e s .system) × AreBytes (bytesWritten es)
+  unfolding bytesWritten AreBytes
+  entry-valid (portWrite port byte) es s b v = (stays-valid σ .write _ _ port byte (b .0) v, b .1)
+  entry-valid (portRead port) es s b v = (stays-valid σ .read _ _ port v, b)
+  entry-valid (clockGrant n m l) es s b v = (stays-valid σ .granted _ n v, b)
+  entry-valid (outsideChange x) es s b v = (v, b)
+
+  -- a list of entries
+  run-valid : (es : List (Entry σ C)) (s : System M) → AreBytes (bytesWritten es) → ValidSystem s → ValidSystem (run σ ω es s .system)
+  unfolding run
+  run-valid [] s b v = v
+  run-valid (e ∷ es) s b v = let h = entry-valid e es s b v in run-valid es _ (h .1) (h .0)
+
+  pub reached-valid : (m : M) (l : List ℕ) (es : List (Entry σ C)) → AreBytes (bytesWritten es) → ValidSystem (run σ ω es (systemAtPowerOn m l) .system)
+  reached-valid m l es b = run-valid es _ b (stays-valid σ .power-on)
+
+  -- a list behind another
+  pub run-behind : (xs ys : List (Entry σ C)) (s : System M) → run σ ω (xs ++ ys) s ≡ record { answers = run σ ω xs s .answers ++ run σ ω ys (run σ ω xs s .system) .answers; system = run σ ω ys (run σ ω xs s .system) .system }
+  unfolding run
+  run-behind [] ys s = refl
+  run-behind (x ∷ xs) ys s =
+      ap
+      (λ (r : Run M). record { answers = record { number = enter σ ω x s .number; byte = enter σ ω x s .byte } ∷ r .answers; system = r .system })
+      (run-behind xs ys (enter σ ω x s .system))
+
+pub pokes-keep-length : PokesKeepLength
+unfolding poked
+pokes-keep-length [] m = refl
+pokes-keep-length (p ∷ ps) m = pokes-keep-length ps (set m (p .address) (p .byte)) ∙ length-set m (p .address) (p .byte)

@@ -1,0 +1,176 @@
+-- Where document 01 says when something is so, that it is so then and at no other time.
+-- Assumes nothing.
+use Prim.Native.Nat.{ℕ, zero, suc, _+_, _*_, _%_, _≤_, _<_}
+use mathlib.Core.Path.{_≡_}
+use mathlib.Core.Bool.{Bool, true, false, not}
+use mathlib.Core.List.{List, [], _∷_}
+use lib.Dec.{ltb, eqb}
+use lib.ListN.{length}
+use Rattle.rules.specs.Choice.{pick, every, any}
+use Rattle.rules.specs.Bytes.{bit}
+use Rattle.rules.specs.Blocks.{blockCount, finished}
+use Rattle.rules.specs.Slots.{busHeld}
+use Rattle.rules.specs.Pending.{aLow, aHigh, lengthLow, lengthHigh, aTiming, bTiming, prescaler, bLow, bHigh, readMask, isPending, nothing, rest, ask, wr0Asks, wr1Asks, wr2Asks, wr4Asks, maskAsked, validPending}
+use Rattle.rules.specs.Validity.{valid, total, most64}
+use Rattle.rules.specs.Registers.{isWR0, isWR1, isWR2, isWR3, isWR4, isWR5, isWR6, inMode, written}
+use Rattle.rules.specs.Readback.{registerByte, after, chosen}
+use Rattle.rules.specs.Buffers.{flat, Buffers}
+use Rattle.rules.specs.World.{System}
+use Rattle.rules.specs.Refusals.{wrongPort, accessRefusal, grantRefusal}
+use Rattle.rules.specs.Calls.{writeReply, readReply, grantNumber, grant}
+use Rattle.rules.specs.declared.Block.{Block}
+use Rattle.rules.specs.declared.Pending.{Pending}
+use Rattle.rules.specs.declared.Clocks.{Clocks}
+use Rattle.rules.specs.declared.Core.{Core}
+
+-- one holds exactly where the other does
+pub record Exactly (P Q : Type 0) : Type 0 where
+  pub to : P → Q
+  pub from : Q → P
+
+-- ---- refusals: each number is given exactly where its condition holds and that of no lower number does
+
+-- the number of a port write or a port read, as equations of tests
+pub record AccessExact (c : Core) (sum port : ℕ) : Type 0 where
+  pub one : eqb (accessRefusal c sum port) 1 ≡ not (valid c sum)
+  pub two : eqb (accessRefusal c sum port) 2 ≡ every (valid c sum ∷ wrongPort port ∷ [])
+  pub three : eqb (accessRefusal c sum port) 3 ≡ every (valid c sum ∷ not (wrongPort port) ∷ busHeld c ∷ [])
+  pub none : eqb (accessRefusal c sum port) 0 ≡ every (valid c sum ∷ not (wrongPort port) ∷ not (busHeld c) ∷ [])
+  pub most : accessRefusal c sum port ≤ 3
+
+-- the number of a grant with the flat memory
+pub record GrantExact (c : Core) (sum : ℕ) (b : Buffers (List ℕ)) (n : ℕ) : Type 0 where
+  pub one : eqb (grantRefusal flat c sum b n) 1 ≡ not (valid c sum)
+  pub four : eqb (grantRefusal flat c sum b n) 4 ≡ every (valid c sum ∷ not (eqb (length (b .memory)) 65536) ∷ [])
+  pub five : eqb (grantRefusal flat c sum b n) 5 ≡ every (valid c sum ∷ eqb (length (b .memory)) 65536 ∷ not (eqb (length (b .latches)) 65536) ∷ [])
+  pub six : eqb (grantRefusal flat c sum b n) 6 ≡ every (valid c sum ∷ eqb (length (b .memory)) 65536 ∷ eqb (length (b .latches)) 65536 ∷ ltb most64 (sum + n) ∷ [])
+  pub none : eqb (grantRefusal flat c sum b n) 0 ≡ every (valid c sum ∷ eqb (length (b .memory)) 65536 ∷ eqb (length (b .latches)) 65536 ∷ not (ltb most64 (sum + n)) ∷ [])
+  pub other : eqb (grantRefusal flat c sum b n) 2 ≡ false × eqb (grantRefusal flat c sum b n) 3 ≡ false × grantRefusal flat c sum b n ≤ 6
+
+-- each call answers with that number
+pub record RefusalsExact : Type 0 where
+  pub write : (c : Core) (k : Clocks) (port byte : ℕ) → writeReply c k port byte .number ≡ accessRefusal c (total k) port
+  pub read : (c : Core) (k : Clocks) (port : ℕ) → readReply c k port .number ≡ accessRefusal c (total k) port
+  pub granted : (s : System (List ℕ)) (n : ℕ) → grant flat s n .number ≡ grantNumber flat s n
+  pub access : (c : Core) (sum port : ℕ) → AccessExact c sum port
+  pub grants : (c : Core) (sum : ℕ) (b : Buffers (List ℕ)) (n : ℕ) → GrantExact c sum b n
+
+-- ---- pending parameters: valid exactly for the tails of what a register's byte asks for, the prescaler alone and the mask
+-- alone
+
+pub data Awaited : Pending → Type 0 where
+  byWR0 : (byte : ℕ) → byte < 256 → isWR0 byte ≡ true → Awaited (wr0Asks byte)
+  byWR1 : (byte : ℕ) → byte < 256 → isWR1 byte ≡ true → Awaited (wr1Asks byte)
+  byWR2 : (byte : ℕ) → byte < 256 → isWR2 byte ≡ true → Awaited (wr2Asks byte)
+  byWR4 : (byte : ℕ) → byte < 256 → isWR4 byte ≡ true → Awaited (wr4Asks byte)
+  byTiming : Awaited (ask true prescaler nothing)
+  byMaskCommand : Awaited maskAsked
+  tail : (p : Pending) → Awaited p → Awaited (rest p)
+
+-- the codes of a sequence, and all sequences
+abbrev pub codes : ℕ → ℕ → ℕ → ℕ → Pending
+codes x y z w = record { first = x; second = y; third = z; fourth = w }
+
+abbrev pub sequences : List Pending
+sequences =
+    nothing
+    ∷ codes aLow 0 0 0
+    ∷ codes aHigh 0 0 0
+    ∷ codes lengthLow 0 0 0
+    ∷ codes lengthHigh 0 0 0
+    ∷ codes aLow aHigh 0 0
+    ∷ codes aLow lengthLow 0 0
+    ∷ codes aLow lengthHigh 0 0
+    ∷ codes aHigh lengthLow 0 0
+    ∷ codes aHigh lengthHigh 0 0
+    ∷ codes lengthLow lengthHigh 0 0
+    ∷ codes aLow aHigh lengthLow 0
+    ∷ codes aLow aHigh lengthHigh 0
+    ∷ codes aLow lengthLow lengthHigh 0
+    ∷ codes aHigh lengthLow lengthHigh 0
+    ∷ codes aLow aHigh lengthLow lengthHigh
+    ∷ codes aTiming 0 0 0
+    ∷ codes bTiming 0 0 0
+    ∷ codes prescaler 0 0 0
+    ∷ codes bLow 0 0 0
+    ∷ codes bHigh 0 0 0
+    ∷ codes bLow bHigh 0 0
+    ∷ codes readMask 0 0 0
+    ∷ []
+
+abbrev pub sameCodes : Pending → Pending → Bool
+sameCodes p q =
+    every (eqb (p .first) (q .first) ∷ eqb (p .second) (q .second) ∷ eqb (p .third) (q .third) ∷ eqb (p .fourth) (q .fourth) ∷ [])
+
+unfoldable pub among : Pending → List Pending → Bool
+among p [] = false
+among p (q ∷ qs) = any (sameCodes p q ∷ among p qs ∷ [])
+
+-- no sequence stands twice
+unfoldable pub distinct : List Pending → Bool
+distinct [] = true
+distinct (p ∷ ps) = every (not (among p ps) ∷ distinct ps ∷ [])
+
+pub record PendingExact : Type 0 where
+  pub valid : (p : Pending) → Exactly (validPending p ≡ true) (Awaited p)
+  -- they are these 23 and no other
+  pub listed : (p : Pending) → Exactly (validPending p ≡ true) (among p sequences ≡ true)
+  pub count : length sequences ≡ 23
+  pub once : distinct sequences ≡ true
+
+-- ---- blocks
+
+-- a block has as many bytes as its length, in Zilog mode one more, and is finished exactly where the counter has come to it
+pub record BlockExact (b : Block) : Type 0 where
+  pub zxn : b .zilog ≡ false → blockCount b ≡ b .length
+  pub zilog : b .zilog ≡ true → blockCount b ≡ b .length + 1
+  pub end : Exactly (finished b ≡ true) (blockCount b ≤ b .counter)
+
+-- ---- reading back
+
+-- so many registers on from k, going round
+unfoldable pub onward : ℕ → ℕ → ℕ
+onward zero k = k
+onward (suc n) k = onward n (after k)
+
+-- the register chosen by a read lies so many on from the read position, it is in the mask, and none from the position up to
+-- it is
+pub record ChosenRead (mask position : ℕ) : Type 0 where
+  pub steps : ℕ
+  pub few : steps < 7
+  pub there : chosen mask position ≡ onward steps position
+  pub inMask : bit (chosen mask position) mask ≡ true
+  pub first : (i : ℕ) → i < steps → bit (onward i position) mask ≡ false
+
+abbrev pub ChosenExact : Type 0
+ChosenExact = (mask position : ℕ) → mask ≤ 127 → (mask ≡ 0 → ⊥) → position ≤ 6 → ChosenRead mask position
+
+-- a number is read low byte first
+pub record LowFirst (c : Core) : Type 0 where
+  pub counter : registerByte 1 c + 256 * registerByte 2 c ≡ c .block .counter % 65536
+  pub a : registerByte 3 c + 256 * registerByte 4 c ≡ c .a .pointer % 65536
+  pub b : registerByte 5 c + 256 * registerByte 6 c ≡ c .b .pointer % 65536
+
+-- ---- the 24 bytes that select no register
+
+-- how many of the tests hold
+unfoldable pub holding : List Bool → ℕ
+holding [] = 0
+holding (t ∷ ts) = pick t 1 0 + holding ts
+
+-- how many registers a byte selects
+abbrev pub selected : ℕ → ℕ
+selected byte =
+    holding (isWR0 byte ∷ isWR1 byte ∷ isWR2 byte ∷ isWR3 byte ∷ isWR4 byte ∷ isWR5 byte ∷ isWR6 byte ∷ [])
+
+-- how many bytes below n select k registers
+unfoldable pub selecting : ℕ → ℕ → ℕ
+selecting k zero = 0
+selecting k (suc n) = selecting k n + pick (eqb (selected n) k) 1 0
+
+pub record SelectionExact : Type 0 where
+  -- of the 256 bytes 232 select one register and 24 select none
+  pub one : selecting 1 256 ≡ 232
+  pub none : selecting 0 256 ≡ 24
+  -- these change nothing but the compatibility mode, while no parameter is pending
+  pub idle : (port byte : ℕ) (c : Core) → selected byte ≡ 0 → isPending (c .pending) ≡ false → written port byte c ≡ inMode port c

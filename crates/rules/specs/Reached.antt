@@ -1,0 +1,72 @@
+-- What every list of calls reaches from power-on, whatever memory and latches it begins with: a valid device, so that no
+-- entry is refused with 1, and counters of at most 65,536.
+-- Assumes nothing.
+use Prim.Native.Nat.{ℕ, _≤_}
+use mathlib.Core.Path.{_≡_}
+use mathlib.Core.Bool.{true}
+use mathlib.Core.List.{List, [], _∷_}
+use lib.ListN.{length}
+use Rattle.rules.specs.Bytes.{AreBytes}
+use Rattle.rules.specs.Validity.{valid, total}
+use Rattle.rules.specs.Buffers.{Store, flat}
+use Rattle.rules.specs.Keeping.{ValidDevice}
+use Rattle.rules.specs.Entries.{Outside, Poke, flatOutside, BorrowedMemory, ownMemory, otherMemory, BorrowedLatches, ownLatches, otherLatches, Entry, portWrite, portRead, clockGrant, outsideChange, bytesWritten, Answered, Run, run, systemAtPowerOn}
+use Rattle.rules.specs.History.{Event, clockNoted, counterZeroed, History, history, pastAtPowerOn}
+use Rattle.rules.specs.Accounts.{heldBefore}
+
+-- what the counter held, each time that it was put to zero, is at most 65,536
+unfoldable pub CountersNoted : List Event → Type 0
+CountersNoted [] = Unit {0}
+CountersNoted (clockNoted n ∷ es) = (heldBefore (n .zeroed) ≤ 65536) × CountersNoted es
+CountersNoted (counterZeroed held ∷ es) = (held ≤ 65536) × CountersNoted es
+
+-- of a list's run r and its history h
+pub record Reached {M : Type 0} (r : Run M) (h : History M) : Type 0 where
+  -- the device is valid, by the facts and by the test that refusal 1 uses
+  pub facts : ValidDevice (r .system .world .core) (r .system .clocks)
+  pub test : valid (r .system .world .core) (total (r .system .clocks)) ≡ true
+  -- what the counter holds, and every counter noted
+  pub counter : r .system .world .core .block .counter ≤ 65536
+  pub noted : CountersNoted (h .past .events)
+
+abbrev pub EveryReached : Type 1
+EveryReached =
+    (M C : Type 0) (σ : Store M) (ω : Outside M C) (m : M) (l : List ℕ) (es : List (Entry σ C))
+    → AreBytes (bytesWritten es)
+    → Reached (run σ ω es (systemAtPowerOn m l)) (history σ ω es (pastAtPowerOn m l))
+
+-- ---- the numbers of the answers, with the flat memory
+
+-- no answer has this number
+unfoldable pub NoneIs : ℕ → List Answered → Type 0
+NoneIs n [] = Unit {0}
+NoneIs n (a ∷ as′) = (a .number ≡ n → ⊥) × NoneIs n as′
+
+-- a grant that lends another memory, and one that lends other latches
+abbrev pub LendsMemory : Entry flat (List Poke) → Type 0
+LendsMemory (portWrite port byte) = ⊥
+LendsMemory (portRead port) = ⊥
+LendsMemory (clockGrant n ownMemory l) = ⊥
+LendsMemory (clockGrant n (otherMemory m wrong) l) = Unit {0}
+LendsMemory (outsideChange x) = ⊥
+
+abbrev pub LendsLatches : Entry flat (List Poke) → Type 0
+LendsLatches (portWrite port byte) = ⊥
+LendsLatches (portRead port) = ⊥
+LendsLatches (clockGrant n m ownLatches) = ⊥
+LendsLatches (clockGrant n m (otherLatches l wrong)) = Unit {0}
+LendsLatches (outsideChange x) = ⊥
+
+-- 4 is answered only to a grant that lends another memory, and 5 only to one that lends other latches
+unfoldable pub OwnServe : List (Entry flat (List Poke)) → List Answered → Type 0
+OwnServe [] as′ = Unit {0}
+OwnServe (e ∷ es) [] = Unit {0}
+OwnServe (e ∷ es) (a ∷ as′) = (a .number ≡ 4 → LendsMemory e) × (a .number ≡ 5 → LendsLatches e) × OwnServe es as′
+
+-- no entry of a list is answered with 1; from buffers of 65,536 bytes, 4 and 5 are answered to other buffers only
+abbrev pub AnswersReached : Type 0
+AnswersReached =
+    (m l : List ℕ) (es : List (Entry flat (List Poke)))
+    → AreBytes (bytesWritten es)
+    → NoneIs 1 (run flat flatOutside es (systemAtPowerOn m l) .answers)
+    × (length m ≡ 65536 → length l ≡ 65536 → OwnServe es (run flat flatOutside es (systemAtPowerOn m l) .answers))
