@@ -1,4 +1,3 @@
-pub mod Putting
 pub mod Poking
 pub mod Carrying
 pub mod Saying

@@ -1,5 +1,3 @@
-pub mod Records
-pub mod Lines
 pub mod Effects
 pub mod Steps
 pub mod Sessions

@@ -13,11 +13,11 @@ use Rattle.rules.specs.World.{System}
 use Rattle.rules.specs.Calls.{Answer}
 use Rattle.rules.specs.Entries.{Poke, flatOutside, Entry, Answered, Run, run, systemAtPowerOn}
 use Rattle.rules.specs.Accounts.{Accounted}
-use Rattle.session.specs.Records.{inputEnds, recordAt}
-use Rattle.session.specs.Lines.{recordLine, countsLine, faultLine}
+use Rattle.records.specs.Records.{inputEnds, recordAt}
+use Rattle.lines.specs.Lines.{recordLine, countsLine, faultLine}
 use Rattle.session.specs.Effects.{entryOf, effect}
 use Rattle.session.specs.Steps.{isOver, room, version, noVersion, Outcome, sessionAtStart, systemWith, stepOf}
-use Rattle.session.specs.declared.parse.Record.{Record}
+use Rattle.records.specs.declared.Record.{Record}
 use Rattle.session.specs.declared.step.Session.{Session}
 
 -- what a session comes to: the bytes of its lines, its fault or 0, and device and buffers at the end

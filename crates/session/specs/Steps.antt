@@ -13,10 +13,10 @@ use Rattle.rules.specs.World.{System}
 use Rattle.rules.specs.Calls.{Answer}
 use Rattle.zxndma.specs.Answers.{deviceAtPowerOn, systemOf}
 use Rattle.zxndma.specs.declared.Device.{Device}
-use Rattle.session.specs.Records.{moreNeeded, inputEnds, cutShort, wrongRecord, recordAt, longLength}
-use Rattle.session.specs.Lines.{recordLine, countsLine, faultLine}
+use Rattle.records.specs.Records.{moreNeeded, inputEnds, cutShort, wrongRecord, recordAt, longLength}
+use Rattle.lines.specs.Lines.{recordLine, countsLine, faultLine}
 use Rattle.session.specs.Effects.{effect}
-use Rattle.session.specs.declared.parse.Record.{Record}
+use Rattle.records.specs.declared.Record.{Record}
 use Rattle.session.specs.declared.step.Session.{Session}
 use Rattle.session.specs.declared.step.Step.{Step}
 

@@ -1,0 +1,4 @@
+pub mod Choosing
+pub mod Standing
+pub mod Pieces
+pub mod Moving
