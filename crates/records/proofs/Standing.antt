@@ -5,8 +5,9 @@ use Prim.Native.Nat.{ℕ, _+_, _-_, _≤_, _<_}
 use native.Mathlib.Omega.{arith}
 use mathlib.Core.Path.{_≡_, refl, _∙_}
 use mathlib.Core.Bool.{true}
+use mathlib.Core.Logic.{_⊎_, inl, inr}
 use mathlib.Core.List.{List}
-use borrow.Author.Tests.{le-leb, lt-leb, leb-false, lt-ltb, le-ltb, ltb-true, ne-eqb}
+use borrow.Author.Tests.{le-leb, lt-leb, leb-true, leb-false, lt-ltb, le-ltb, ltb-true, ne-eqb}
 use lib.Dec.{leb}
 use lib.ListN.{length, getD}
 use Rattle.rules.specs.Choice.{pick}
@@ -14,44 +15,77 @@ use Rattle.rules.proofs.Choice.{pick-true, pick-false, pick-both, pick-cases}
 use Rattle.records.specs.Records.{none, short, behind, word, writeRecord, readRecord, grantRecord, memoryRecord, ofKind, recordAt, longLength}
 use Rattle.records.specs.declared.Record.{Record}
 
--- a record there takes bytes
-pub record Stands (p : ℕ) (r : Record) : Type 0 where
+-- where a record stands, it takes bytes; where the end does, no byte is left; a fault there is 21 or 22
+pub record Stands (xs : List ℕ) (p : ℕ) (r : Record) : Type 0 where
   pub some : 0 < r .number
   pub takes : (r .number ≡ 5 → ⊥) → (20 ≤ r .number → ⊥) → p < r .next
-
-no-record : (p number : ℕ) → 20 ≤ number → Stands p (none number p)
-no-record p number h = record { some = omega arith; takes = λ e f. absurd (f h) }
+  pub ends : r .number ≡ 5 → length xs ≤ p
+  pub fault : 20 ≤ r .number → (r .number ≡ 21) ⊎ (r .number ≡ 22)
 
 module _ (xs : List ℕ) (p : ℕ) where
-  pub stands-kind : (n k : ℕ) → Stands p (ofKind xs p n k)
+  stands-cut : Stands xs p (none 21 p)
+  stands-cut =
+      record {
+        some = omega arith;
+        takes = λ e f. absurd (f (omega arith));
+        ends = λ e. absurd (omega (arith, e));
+        fault = λ h. inl refl;
+      }
+
+  stands-wrong : Stands xs p (none 22 p)
+  stands-wrong =
+      record {
+        some = omega arith;
+        takes = λ e f. absurd (f (omega arith));
+        ends = λ e. absurd (omega (arith, e));
+        fault = λ h. inr refl;
+      }
+
+  -- a record of one of the four kinds
+  stands-one : (r : Record) → 0 < r .number → r .number < 5 → p < r .next → Stands xs p r
+  stands-one r h g n =
+      record {
+        some = h;
+        takes = λ e f. n;
+        ends = λ e. absurd (omega (arith, e));
+        fault = λ f. absurd (omega arith);
+      }
+
+  pub stands-kind : (n k : ℕ) → Stands xs p (ofKind xs p n k)
   unfolding ofKind writeRecord readRecord grantRecord memoryRecord
   stands-kind n k =
-      pick-both (Stands p) _ _ _
-      (pick-both (Stands p) _ _ _ (record { some = omega arith; takes = λ e f. omega arith }) (no-record p 22 (omega arith)))
-      (pick-both (Stands p) _ _ _
-      (pick-both (Stands p) _ _ _ (record { some = omega arith; takes = λ e f. omega arith }) (no-record p 22 (omega arith)))
-      (pick-both (Stands p) _ _ _
-      (pick-both (Stands p) _ _ _ (record { some = omega arith; takes = λ e f. omega arith }) (no-record p 22 (omega arith)))
-      (pick-both (Stands p) _ _ _
-      (pick-both (Stands p) _ _ _ (no-record p 22 (omega arith))
-      (pick-both (Stands p) _ _ _ (no-record p 22 (omega arith)) (record { some = omega arith; takes = λ e f. omega arith })))
-      (no-record p 22 (omega arith)))))
+      pick-both (Stands xs p) _ _ _
+      (pick-both (Stands xs p) _ _ _ (stands-one _ (omega arith) (omega arith) (omega arith)) stands-wrong)
+      (pick-both (Stands xs p) _ _ _
+      (pick-both (Stands xs p) _ _ _ (stands-one _ (omega arith) (omega arith) (omega arith)) stands-wrong)
+      (pick-both (Stands xs p) _ _ _
+      (pick-both (Stands xs p) _ _ _ (stands-one _ (omega arith) (omega arith) (omega arith)) stands-wrong)
+      (pick-both (Stands xs p) _ _ _
+      (pick-both (Stands xs p) _ _ _ stands-wrong
+      (pick-both (Stands xs p) _ _ _ stands-wrong (stands-one _ (omega arith) (omega arith) (omega arith))))
+      stands-wrong)))
 
-  stands-short : Stands p (short true p)
+  stands-short : Stands xs p (short true p)
   unfolding short pick
-  stands-short = no-record p 21 (omega arith)
+  stands-short = stands-cut
 
-  stands-behind : Stands p (behind true p)
+  stands-behind : length xs ≤ p → Stands xs p (behind true p)
   unfolding behind pick
-  stands-behind = record { some = omega arith; takes = λ e f. absurd (e refl) }
+  stands-behind h =
+      record {
+        some = omega arith;
+        takes = λ e f. absurd (e refl);
+        ends = λ e. h;
+        fault = λ f. absurd (omega (arith, f));
+      }
 
-  pub stands : Stands p (recordAt xs p true)
+  pub stands : Stands xs p (recordAt xs p true)
   unfolding recordAt
   stands =
-      pick-both (Stands p) _ _ _ stands-behind
-      (pick-both (Stands p) _ _ _ stands-short
-      (pick-both (Stands p) _ _ _ stands-short
-      (pick-both (Stands p) _ _ _ (no-record p 22 (omega arith)) (stands-kind (word xs p) (getD xs (p + 2) 0)))))
+      pick-cases (Stands xs p) (leb (length xs) p) _ _ (λ e. stands-behind (leb-true (length xs) p e))
+      (λ e. pick-both (Stands xs p) _ _ _ stands-short
+      (pick-both (Stands xs p) _ _ _ stands-short
+      (pick-both (Stands xs p) _ _ _ stands-wrong (stands-kind (word xs p) (getD xs (p + 2) 0)))))
 
   -- behind the last byte stands the end
   pub at-end : length xs ≤ p → recordAt xs p true ≡ none 5 p

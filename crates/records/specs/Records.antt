@@ -17,6 +17,10 @@ word xs p = 256 * getD xs p 0 + getD xs (p + 1) 0
 unfoldable pub quad : List ℕ → ℕ → ℕ
 quad xs p = 65536 * word xs p + word xs (p + 2)
 
+-- the version of a session, its first byte
+abbrev pub version : ℕ
+version = 1
+
 -- the kinds of a record
 abbrev pub writeKind : ℕ
 writeKind = 1
@@ -29,6 +33,10 @@ grantKind = 3
 
 abbrev pub memoryKind : ℕ
 memoryKind = 4
+
+-- the fault of a session whose version is missing or not 1; no fault has a lower number
+abbrev pub noVersion : ℕ
+noVersion = 20
 
 -- the numbers of what is no record: more bytes are needed; the input ends with the last record; a record is cut short; a
 -- record is of no kind, or not as long as its kind is

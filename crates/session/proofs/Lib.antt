@@ -4,6 +4,7 @@ pub mod Saying
 pub mod Room
 pub mod Runs
 pub mod Stepping
+pub mod Faults
 pub mod Pieces
 pub mod Moving
 pub mod Examples

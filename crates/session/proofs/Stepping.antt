@@ -84,7 +84,7 @@ module _ (xs out : List ℕ) (room : 72 ≤ length out) (b : Buffers (List ℕ))
       (omega (arith, placed-size 0 (recordLine (r .number) (a .number) (a .byte)) out)))
 
   -- what stands at a place, taken by a step
-  onward-record : (k most p : ℕ) (r : Record) → Stands p r → (p < r .next → onward k xs (carried r (effect xs r (systemWith d b)) out) ≡ lineBefore (recordLine (r .number) (effect xs r (systemWith d b) .number) (effect xs r (systemWith d b) .byte)) (recordsFrom most xs (r .next) (effect xs r (systemWith d b) .system))) → onward k xs (byRecord r (inPhase 1 0 d) xs out b) ≡ after most xs r (systemWith d b)
+  onward-record : (k most p : ℕ) (r : Record) → Stands xs p r → (p < r .next → onward k xs (carried r (effect xs r (systemWith d b)) out) ≡ lineBefore (recordLine (r .number) (effect xs r (systemWith d b) .number) (effect xs r (systemWith d b) .byte)) (recordsFrom most xs (r .next) (effect xs r (systemWith d b) .system))) → onward k xs (byRecord r (inPhase 1 0 d) xs out b) ≡ after most xs r (systemWith d b)
   unfolding byRecord after
   onward-record k most p r s h =
       ap (onward k xs) (pick-false _ _ _ (ne-eqb (r .number) 0 (λ e. omega (arith, s .some, e))))

@@ -4,6 +4,7 @@
 use Prim.Native.Nat.{ℕ, zero, suc, _+_, _≤_}
 use mathlib.Core.Path.{_≡_}
 use mathlib.Core.Bool.{true}
+use mathlib.Core.Logic.{_⊎_}
 use mathlib.Core.List.{List, [], _∷_, _++_}
 use lib.Dec.{eqb, leb}
 use lib.ListN.{length, getD, take, replicate}
@@ -13,10 +14,10 @@ use Rattle.rules.specs.World.{System}
 use Rattle.rules.specs.Calls.{Answer}
 use Rattle.rules.specs.Entries.{Poke, flatOutside, Entry, Answered, Run, run, systemAtPowerOn}
 use Rattle.rules.specs.Accounts.{Accounted}
-use Rattle.records.specs.Records.{inputEnds, recordAt}
+use Rattle.records.specs.Records.{version, noVersion, inputEnds, recordAt}
 use Rattle.lines.specs.Lines.{recordLine, countsLine, faultLine}
 use Rattle.session.specs.Effects.{entryOf, effect}
-use Rattle.session.specs.Steps.{isOver, room, version, noVersion, Outcome, sessionAtStart, systemWith, stepOf}
+use Rattle.session.specs.Steps.{isOver, room, Outcome, sessionAtStart, systemWith, stepOf}
 use Rattle.records.specs.declared.Record.{Record}
 use Rattle.session.specs.declared.step.Session.{Session}
 
@@ -51,6 +52,14 @@ recordsFrom (suc most) xs p s =
 -- a session: the version byte, 1, and the records behind it
 unfoldable pub session : List ℕ → Ended
 session xs = pick (eqb (getD xs 0 0) version) (recordsFrom (length xs) xs 1 start) (endedBy (faultLine noVersion) noVersion start)
+
+-- the numbers that a session's fault can have: none, no version, a record cut short, a wrong record
+abbrev pub FaultNumber : ℕ → Type 0
+FaultNumber n = (n ≡ 0) ⊎ (n ≡ 20) ⊎ (n ≡ 21) ⊎ (n ≡ 22)
+
+-- a session has no other fault
+abbrev pub FaultKnown : List ℕ → Type 0
+FaultKnown xs = FaultNumber (session xs .fault)
 
 -- a session leaves no record behind: to allow for more records changes nothing
 abbrev pub AllRead : List ℕ → Type 0
