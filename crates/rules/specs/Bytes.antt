@@ -1,7 +1,8 @@
 -- Bits of a byte, and the two bytes of a 16-bit number.
 -- Assumes nothing.
-use Prim.Native.Nat.{ℕ, _+_, _*_, _/_, _%_, _^_}
+use Prim.Native.Nat.{ℕ, _+_, _*_, _/_, _%_, _^_, _<_}
 use mathlib.Core.Bool.{Bool}
+use mathlib.Core.List.{List, [], _∷_}
 use lib.Dec.{eqb}
 
 -- bit k of a byte is set
@@ -21,3 +22,8 @@ withLow byte n = n / 256 * 256 + byte
 -- the number with its high byte replaced and its low byte as it was
 abbrev pub withHigh : ℕ → ℕ → ℕ
 withHigh byte n = byte * 256 + n % 256
+
+-- every number of the list is a byte
+unfoldable pub AreBytes : List ℕ → Type 0
+AreBytes [] = Unit {0}
+AreBytes (x ∷ xs) = (x < 256) × AreBytes xs

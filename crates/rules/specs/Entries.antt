@@ -45,6 +45,14 @@ pub data Entry {M : Type 0} (σ : Store M) (C : Type 0) : Type 0 where
   clockGrant : ℕ → BorrowedMemory σ → BorrowedLatches → Entry σ C
   outsideChange : C → Entry σ C
 
+-- the bytes that a list writes to ports
+unfoldable pub bytesWritten : {M C : Type 0} {σ : Store M} → List (Entry σ C) → List ℕ
+bytesWritten [] = []
+bytesWritten (portWrite port byte ∷ es) = byte ∷ bytesWritten es
+bytesWritten (portRead port ∷ es) = bytesWritten es
+bytesWritten (clockGrant n m l ∷ es) = bytesWritten es
+bytesWritten (outsideChange x ∷ es) = bytesWritten es
+
 -- what an entry is answered with; an outside change, with 0
 pub record Answered : Type 0 where
   pub number : ℕ

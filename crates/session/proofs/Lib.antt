@@ -7,4 +7,5 @@ pub mod Stepping
 pub mod Faults
 pub mod Pieces
 pub mod Moving
+pub mod RoundTrip
 pub mod Examples

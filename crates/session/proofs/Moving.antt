@@ -22,14 +22,14 @@ use Rattle.records.proofs.Choosing.{same, lift}
 use Rattle.records.proofs.Moving.{byte-moves, moved, test-here, record-moves, long-moves}
 
 module _ (k : ℕ) (xs : List ℕ) where
-  pokes-move : (n i i′ a : ℕ) → i′ ≡ k + i → pokes n xs i′ a ≡ pokes n (drop k xs) i a
+  pub pokes-move : (n i i′ a : ℕ) → i′ ≡ k + i → pokes n xs i′ a ≡ pokes n (drop k xs) i a
   unfolding pokes
   pokes-move zero i i′ a e = refl
   pokes-move (suc n) i i′ a e =
       λ j. record { address = a; byte = byte-moves k xs i i′ e j } ∷ pokes-move n (i + 1) (i′ + 1) ((a + 1) % 65536) (omega (arith, e)) j
 
   -- a record stands for the same entry
-  entry-moves : (r : Record) → entryOf xs (moved k xs r) ≡ entryOf (drop k xs) r
+  pub entry-moves : (r : Record) → entryOf xs (moved k xs r) ≡ entryOf (drop k xs) r
   unfolding entryOf moved
   entry-moves r =
       same (eqb (r .number) 1) _ _ _ _ (λ f. refl)

@@ -1,5 +1,6 @@
 pub mod Effects
 pub mod Steps
 pub mod Sessions
+pub mod RoundTrip
 pub mod Pieces
 pub mod Examples
