@@ -1,5 +1,5 @@
 -- What can stand at a place where the input has ended: a record that takes bytes, the end, or a fault. A record that is too
--- long for any kind is a fault.
+-- long for any kind is a fault, and where the bytes are bytes, so is a record's byte.
 -- Assumes nothing.
 use Prim.Native.Nat.{ℕ, _+_, _-_, _≤_, _<_}
 use native.Mathlib.Omega.{arith}
@@ -11,9 +11,11 @@ use borrow.Author.Tests.{le-leb, lt-leb, leb-true, leb-false, lt-ltb, le-ltb, lt
 use lib.Dec.{leb}
 use lib.ListN.{length, getD}
 use Rattle.rules.specs.Choice.{pick}
+use Rattle.rules.specs.Bytes.{AreBytes}
 use Rattle.rules.proofs.Choice.{pick-true, pick-false, pick-both, pick-cases}
 use Rattle.records.specs.Records.{none, short, behind, word, writeRecord, readRecord, grantRecord, memoryRecord, ofKind, recordAt, longLength}
 use Rattle.records.specs.declared.Record.{Record}
+use Rattle.records.proofs.Bytes.{byte-small}
 
 -- where a record stands, it takes bytes; where the end does, no byte is left; a fault there is 21 or 22
 pub record Stands (xs : List ℕ) (p : ℕ) (r : Record) : Type 0 where
@@ -23,23 +25,17 @@ pub record Stands (xs : List ℕ) (p : ℕ) (r : Record) : Type 0 where
   pub fault : 20 ≤ r .number → (r .number ≡ 21) ⊎ (r .number ≡ 22)
 
 module _ (xs : List ℕ) (p : ℕ) where
-  stands-cut : Stands xs p (none 21 p)
-  stands-cut =
+  stands-fault : (number : ℕ) → 20 ≤ number → (number ≡ 21) ⊎ (number ≡ 22) → Stands xs p (none number p)
+  stands-fault number h g =
       record {
         some = omega arith;
-        takes = λ e f. absurd (f (omega arith));
+        takes = λ e f. absurd (f h);
         ends = λ e. absurd (omega (arith, e));
-        fault = λ h. inl refl;
+        fault = λ f. g;
       }
 
   stands-wrong : Stands xs p (none 22 p)
-  stands-wrong =
-      record {
-        some = omega arith;
-        takes = λ e f. absurd (f (omega arith));
-        ends = λ e. absurd (omega (arith, e));
-        fault = λ h. inr refl;
-      }
+  stands-wrong = stands-fault 22 (omega arith) (inr refl)
 
   -- a record of one of the four kinds
   stands-one : (r : Record) → 0 < r .number → r .number < 5 → p < r .next → Stands xs p r
@@ -67,7 +63,7 @@ module _ (xs : List ℕ) (p : ℕ) where
 
   stands-short : Stands xs p (short true p)
   unfolding short pick
-  stands-short = stands-cut
+  stands-short = stands-fault 21 (omega arith) (inl refl)
 
   stands-behind : length xs ≤ p → Stands xs p (behind true p)
   unfolding behind pick
@@ -148,3 +144,24 @@ long-there xs p =
     pick-cases (λ (n : ℕ). (n ≡ 0 → ⊥) → p + 2 ≤ length xs) (leb (length xs) p) _ _ (λ e f. absurd (f refl))
     (λ e. pick-cases (λ (n : ℕ). (n ≡ 0 → ⊥) → p + 2 ≤ length xs) (leb (length xs) (p + 1)) _ _ (λ e f. absurd (f refl))
     (λ e f. omega (arith, leb-false (length xs) (p + 1) e)))
+
+-- the byte of what stands at a place is a byte
+Small : Record → Type 0
+Small r = r .byte < 256
+
+module _ (xs : List ℕ) (h : AreBytes xs) (p : ℕ) where
+  small-kind : (n k : ℕ) → Small (ofKind xs p n k)
+  unfolding ofKind writeRecord readRecord grantRecord memoryRecord Small
+  small-kind n k =
+      pick-both Small _ _ _ (pick-both Small _ _ _ (byte-small xs h (p + 5)) (omega arith))
+      (pick-both Small _ _ _ (pick-both Small _ _ _ (omega arith) (omega arith))
+      (pick-both Small _ _ _ (pick-both Small _ _ _ (omega arith) (omega arith))
+      (pick-both Small _ _ _ (pick-both Small _ _ _ (omega arith) (pick-both Small _ _ _ (omega arith) (omega arith))) (omega arith))))
+
+  pub small-byte : recordAt xs p true .byte < 256
+  unfolding recordAt short behind Small
+  small-byte =
+      pick-both Small _ _ _ (pick-both Small _ _ _ (omega arith) (omega arith))
+      (pick-both Small _ _ _ (pick-both Small _ _ _ (omega arith) (omega arith))
+      (pick-both Small _ _ _ (pick-both Small _ _ _ (omega arith) (omega arith))
+      (pick-both Small _ _ _ (omega arith) (small-kind (word xs p) (getD xs (p + 2) 0)))))

@@ -24,6 +24,7 @@ pub mod Keeping
 pub mod Entries
 pub mod History
 pub mod Accounts
+pub mod Reached
 pub mod Rows
 pub mod WorkedExamples
 pub mod Slips

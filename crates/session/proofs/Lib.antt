@@ -8,4 +8,5 @@ pub mod Faults
 pub mod Pieces
 pub mod Moving
 pub mod RoundTrip
+pub mod Served
 pub mod Examples
