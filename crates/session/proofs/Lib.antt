@@ -2,6 +2,7 @@ pub mod Poking
 pub mod Carrying
 pub mod Saying
 pub mod Room
+pub mod Entries
 pub mod Runs
 pub mod Stepping
 pub mod Faults
