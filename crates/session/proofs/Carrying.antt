@@ -17,7 +17,7 @@ use Rattle.zxndma.specs.declared.WriteAnswer.{WriteAnswer}
 use Rattle.zxndma.specs.declared.ReadAnswer.{ReadAnswer}
 use Rattle.zxndma.specs.declared.GrantAnswer.{GrantAnswer}
 use Rattle.session.specs.Effects.{pokes, entryOf, effect}
-use Rattle.session.specs.declared.parse.Record.{Record}
+use Rattle.records.specs.declared.Record.{Record}
 
 -- a write gives no byte
 write-byte : (c : Core) (k : Clocks) (port byte : ℕ) → writeReply c k port byte .byte ≡ 0

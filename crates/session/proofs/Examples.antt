@@ -2,8 +2,8 @@
 -- Assumes nothing.
 use mathlib.Core.Path.{refl}
 use Rattle.rules.specs.Opened.{opened}
-use Rattle.session.specs.Records.{word, quad, short, behind, writeRecord, readRecord, grantRecord, memoryRecord, ofKind, recordAt}
-use Rattle.session.specs.Lines.{decimalTo, hexDigit, readLine, recordLine}
+use Rattle.records.specs.Records.{word, quad, short, behind, writeRecord, readRecord, grantRecord, memoryRecord, ofKind, recordAt}
+use Rattle.lines.specs.Lines.{decimalTo, hexDigit, readLine, recordLine}
 use Rattle.session.specs.Effects.{pokes, entryOf}
 use Rattle.session.specs.Sessions.{recordsFrom, session}
 use Rattle.session.specs.Examples.{asciiFrom, writes, seen, must, ExamplesHold}

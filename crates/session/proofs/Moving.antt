@@ -3,147 +3,33 @@
 use Prim.Native.Nat.{ℕ, zero, suc, _+_, _-_, _%_}
 use native.Mathlib.Omega.{arith}
 use mathlib.Core.Path.{_≡_, refl, sym, ap, _∙_}
-use mathlib.Core.Bool.{Bool, false}
+use mathlib.Core.Bool.{Bool}
 use mathlib.Core.List.{List, _∷_}
-use borrow.Author.Tests.{le-leb, lt-leb, leb-true, leb-false}
 use lib.Dec.{eqb, leb, ltb}
 use lib.ListN.{length, getD, drop, length-drop}
-use lib.Seq.{getD-drop}
 use Rattle.rules.specs.Choice.{pick}
 use Rattle.rules.specs.Buffers.{Buffers, flat}
 use Rattle.rules.specs.Entries.{Poke, flatOutside, Entry, outsideChange, enter}
 use Rattle.rules.proofs.Choice.{pick-true, pick-ap, either}
-use Rattle.session.specs.Records.{none, short, behind, word, quad, writeRecord, readRecord, grantRecord, memoryRecord, ofKind, recordAt, longLength}
+use Rattle.records.specs.Records.{word, recordAt, longLength}
 use Rattle.session.specs.Effects.{pokes, entryOf}
 use Rattle.session.specs.Steps.{Said, Outcome, inPhase, withoutLine, buffersKept, lastFault, carried, systemWith, versionStep, longStep, byRecord, recordStep, stepOf}
 use Rattle.session.specs.Pieces.{farther, StepMoves}
-use Rattle.session.specs.declared.parse.Record.{Record}
+use Rattle.records.specs.declared.Record.{Record}
 use Rattle.session.specs.declared.step.Session.{Session}
-use Rattle.session.proofs.Pieces.{without-room, at-version, at-record, at-long, at-over, same}
-
--- a choice under a function, part by part
-lift : {X Y : Type 0} (f : X → Y) {t t′ : Bool} (x y : Y) (x′ y′ : X) → t ≡ t′ → x ≡ f x′ → y ≡ f y′ → pick t x y ≡ f (pick t′ x′ y′)
-lift f {t} {t′} x y x′ y′ e g h = (λ i. pick (e i) (g i) (h i)) ∙ sym (pick-ap f t′ x′ y′)
+use Rattle.session.proofs.Pieces.{without-room, at-version, at-record, at-long, at-over}
+use Rattle.records.proofs.Choosing.{same, lift}
+use Rattle.records.proofs.Moving.{byte-moves, moved, test-here, record-moves, long-moves}
 
 module _ (k : ℕ) (xs : List ℕ) where
-  -- a place of the whole list, and the same place of the rest
-  byte-moves : (i i′ : ℕ) → i′ ≡ k + i → getD xs i′ 0 ≡ getD (drop k xs) i 0
-  byte-moves i i′ e = ap (λ (n : ℕ). getD xs n 0) e ∙ sym (getD-drop k xs i 0)
-
-  word-moves : (i i′ : ℕ) → i′ ≡ k + i → word xs i′ ≡ word (drop k xs) i
-  unfolding word
-  word-moves i i′ e = simp (byte-moves i i′ e, byte-moves (i + 1) (i′ + 1) (omega (arith, e)))
-
-  quad-moves : (i i′ : ℕ) → i′ ≡ k + i → quad xs i′ ≡ quad (drop k xs) i
-  unfolding quad
-  quad-moves i i′ e = simp (word-moves i i′ e, word-moves (i + 2) (i′ + 2) (omega (arith, e)))
-
-  pokes-move : (n i i′ a : ℕ) → i′ ≡ k + i → pokes n xs i′ a ≡ pokes n (drop k xs) i a
+  pub pokes-move : (n i i′ a : ℕ) → i′ ≡ k + i → pokes n xs i′ a ≡ pokes n (drop k xs) i a
   unfolding pokes
   pokes-move zero i i′ a e = refl
   pokes-move (suc n) i i′ a e =
-      λ j. record { address = a; byte = byte-moves i i′ e j } ∷ pokes-move n (i + 1) (i′ + 1) ((a + 1) % 65536) (omega (arith, e)) j
-
-  -- a record found in the rest, as it is found in the whole list
-  moved : Record → Record
-  moved r =
-      record {
-        number = r .number;
-        word = r .word;
-        byte = r .byte;
-        clocks = r .clocks;
-        start = pick (eqb (r .number) 4) (k + r .start) (r .start);
-        next = k + r .next;
-      }
-
-  module _ (p q : ℕ) (e : q ≡ k + p) where
-    -- a number of bytes behind the place
-    on : (n : ℕ) → q + n ≡ k + (p + n)
-    on n = omega (arith, e)
-
-    none-moves : (number : ℕ) → eqb number 4 ≡ false → none number q ≡ moved (none number p)
-    unfolding moved pick
-    none-moves number h = simp h (λ i. none number (e i))
-
-    short-moves : (ended : Bool) → short ended q ≡ moved (short ended p)
-    unfolding short
-    short-moves ended = lift moved _ _ _ _ refl (none-moves 21 refl) (none-moves 0 refl)
-
-    behind-moves : (ended : Bool) → behind ended q ≡ moved (behind ended p)
-    unfolding behind
-    behind-moves ended = lift moved _ _ _ _ refl (none-moves 5 refl) (none-moves 0 refl)
-
-    -- a record that is no memory record, and one that is
-    found-moves : (number n : ℕ) {w w′ byte byte′ clocks clocks′ : ℕ} → eqb number 4 ≡ false → w ≡ w′ → byte ≡ byte′ → clocks ≡ clocks′ → _≡_ {A = Record} (record { number = number; word = w; byte = byte; clocks = clocks; start = 0; next = q + n }) (moved (record { number = number; word = w′; byte = byte′; clocks = clocks′; start = 0; next = p + n }))
-    unfolding moved pick
-    found-moves number n h f g c =
-        simp h (λ i. record { number = number; word = f i; byte = g i; clocks = c i; start = 0; next = on n i })
-
-    memory-found : (n : ℕ) → _≡_ {A = Record} (record { number = 4; word = word xs (q + 3); byte = 0; clocks = 0; start = q + 5; next = q + 2 + n }) (moved (record { number = 4; word = word (drop k xs) (p + 3); byte = 0; clocks = 0; start = p + 5; next = p + 2 + n }))
-    unfolding moved pick
-    memory-found n =
-        let z : q + 2 + n ≡ k + (p + 2 + n) = omega (arith, e) in
-        λ i. record { number = 4; word = word-moves (p + 3) (q + 3) (on 3) i; byte = 0; clocks = 0; start = on 5 i; next = z i }
-
-    write-moves : (n : ℕ) → writeRecord xs q n ≡ moved (writeRecord (drop k xs) p n)
-    unfolding writeRecord
-    write-moves n =
-        lift moved _ _ _ _ refl
-        (found-moves 1 6 refl (word-moves (p + 3) (q + 3) (on 3)) (byte-moves (p + 5) (q + 5) (on 5)) refl)
-        (none-moves 22 refl)
-
-    read-moves : (n : ℕ) → readRecord xs q n ≡ moved (readRecord (drop k xs) p n)
-    unfolding readRecord
-    read-moves n = lift moved _ _ _ _ refl (found-moves 2 5 refl (word-moves (p + 3) (q + 3) (on 3)) refl refl) (none-moves 22 refl)
-
-    grant-moves : (n : ℕ) → grantRecord xs q n ≡ moved (grantRecord (drop k xs) p n)
-    unfolding grantRecord
-    grant-moves n = lift moved _ _ _ _ refl (found-moves 3 7 refl refl refl (quad-moves (p + 3) (q + 3) (on 3))) (none-moves 22 refl)
-
-    memory-moves : (n : ℕ) → memoryRecord xs q n ≡ moved (memoryRecord (drop k xs) p n)
-    unfolding memoryRecord
-    memory-moves n = lift moved _ _ _ _ refl (none-moves 22 refl) (lift moved _ _ _ _ refl (none-moves 22 refl) (memory-found n))
-
-    kind-moves : (n c : ℕ) → ofKind xs q n c ≡ moved (ofKind (drop k xs) p n c)
-    unfolding ofKind
-    kind-moves n c =
-        lift moved _ _ _ _ refl (write-moves n)
-        (lift moved _ _ _ _ refl (read-moves n)
-        (lift moved _ _ _ _ refl (grant-moves n) (lift moved _ _ _ _ refl (memory-moves n) (none-moves 22 refl))))
-
-    -- the tests come out alike
-    test-moves : (n : ℕ) → leb (length xs) (q + n) ≡ leb (length (drop k xs)) (p + n)
-    test-moves n =
-        either (leb (length xs) (q + n))
-        (λ f. f ∙ sym (le-leb (length (drop k xs)) (p + n) (omega (arith, leb-true (length xs) (q + n) f, e, length-drop k xs))))
-        (λ f. f ∙ sym (lt-leb (length (drop k xs)) (p + n) (omega (arith, leb-false (length xs) (q + n) f, e, length-drop k xs))))
-
-    test-here : leb (length xs) q ≡ leb (length (drop k xs)) p
-    test-here =
-        ap (leb (length xs)) (let z : q ≡ q + 0 = omega arith in z)
-        ∙ test-moves 0
-        ∙ ap (leb (length (drop k xs))) (let z : p + 0 ≡ p = omega arith in z)
-
-    rest-moves : (n : ℕ) → length xs - (q + n) ≡ length (drop k xs) - (p + n)
-    rest-moves n = omega (arith, e, length-drop k xs)
-
-    record-moves : (ended : Bool) → recordAt xs q ended ≡ moved (recordAt (drop k xs) p ended)
-    unfolding recordAt
-    record-moves ended =
-        lift moved _ _ _ _ test-here (behind-moves ended)
-        (lift moved _ _ _ _ (test-moves 1) (short-moves ended)
-        (lift moved _ _ _ _ (λ i. ltb (rest-moves 2 i) (word-moves p q e i)) (short-moves ended)
-        (lift moved _ _ _ _ (λ i. eqb (word-moves p q e i) 0) (none-moves 22 refl)
-        ((λ i. ofKind xs q (word-moves p q e i) (byte-moves (p + 2) (q + 2) (on 2) i))
-        ∙ kind-moves (word (drop k xs) p) (getD (drop k xs) (p + 2) 0)))))
-
-    long-moves : longLength xs q ≡ longLength (drop k xs) p
-    unfolding longLength
-    long-moves =
-        λ i. pick (test-here i) 0 (pick (test-moves 1 i) 0 (pick (ltb 258 (word-moves p q e i)) (word-moves p q e i) 0))
+      λ j. record { address = a; byte = byte-moves k xs i i′ e j } ∷ pokes-move n (i + 1) (i′ + 1) ((a + 1) % 65536) (omega (arith, e)) j
 
   -- a record stands for the same entry
-  entry-moves : (r : Record) → entryOf xs (moved r) ≡ entryOf (drop k xs) r
+  pub entry-moves : (r : Record) → entryOf xs (moved k xs r) ≡ entryOf (drop k xs) r
   unfolding entryOf moved
   entry-moves r =
       same (eqb (r .number) 1) _ _ _ _ (λ f. refl)

@@ -1,38 +1,21 @@
--- Every line has room in 72 bytes.
+-- A step's line has room where a slice of 72 bytes is lent, since every line has.
 -- Assumes nothing.
 use Prim.Native.Nat.{ℕ, _≤_}
 use native.Mathlib.Omega.{arith}
 use mathlib.Core.Path.{_≡_, subst, sym}
 use mathlib.Core.Bool.{Bool}
-use mathlib.Core.List.{List, [], _∷_}
+use mathlib.Core.List.{List}
 use borrow.Author.Tests.{ltb-false}
-use lib.Dec.{eqb, ltb}
-use lib.ListN.{length, length-append}
+use lib.Dec.{ltb}
+use lib.ListN.{length}
 use Rattle.rules.specs.Buffers.{Buffers}
-use Rattle.rules.specs.declared.Clocks.{Clocks}
 use Rattle.rules.proofs.Choice.{pick-both, pick-cases}
-use Rattle.session.specs.Lines.{decimal, numberLine, readLine, recordLine, countsLine}
-use Rattle.session.specs.Records.{recordAt}
+use Rattle.records.specs.Records.{recordAt}
+use Rattle.records.specs.declared.Record.{Record}
+use Rattle.lines.proofs.Room.{number-room, record-room, counts-room}
 use Rattle.session.specs.Steps.{Said, Outcome, versionStep, longStep, byRecord, recordStep, stepOf, outcome}
-use Rattle.session.specs.declared.parse.Record.{Record}
 use Rattle.session.specs.declared.step.Session.{Session}
 use Rattle.session.specs.declared.step.Step.{Step}
-use Rattle.session.proofs.Putting.{decimal-most}
-
-pub number-room : (letter n : ℕ) → length (numberLine letter n) ≤ 72
-number-room letter n = omega (arith, length-append (decimal n) (10 ∷ []), decimal-most 20 n)
-
-pub record-room : (kind number byte : ℕ) → length (recordLine kind number byte) ≤ 72
-unfolding recordLine readLine
-record-room kind number byte =
-    pick-both (λ (xs : List ℕ). length xs ≤ 72) (eqb kind 1) _ _ (number-room 87 number)
-    (pick-both (λ (xs : List ℕ). length xs ≤ 72) (eqb kind 2) _ _
-    (pick-both (λ (xs : List ℕ). length xs ≤ 72) (eqb number 0) _ _ (omega arith) (number-room 82 number))
-    (pick-both (λ (xs : List ℕ). length xs ≤ 72) (eqb kind 3) _ _ (number-room 71 number) (number-room 77 number)))
-
-pub counts-room : (k : Clocks) → length (countsLine k) ≤ 72
-counts-room k =
-    simp length-append (omega (arith, decimal-most 20 (k .bus), decimal-most 20 (k .held), decimal-most 20 (k .cpu)))
 
 -- a line that fits
 Fits : Said → Type 0

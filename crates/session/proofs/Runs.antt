@@ -3,7 +3,7 @@
 use Prim.Native.Nat.{ℕ, zero, suc}
 use native.Mathlib.Omega.{arith}
 use mathlib.Core.Path.{_≡_, refl, sym, ap, _∙_}
-use mathlib.Core.Bool.{Bool, true, false}
+use mathlib.Core.Bool.{true, false}
 use mathlib.Core.List.{List, [], _∷_, _++_, append-assoc}
 use borrow.Author.Tests.{leb-true, ne-eqb}
 use lib.Dec.{eqb, leb}
@@ -11,13 +11,16 @@ use lib.ListN.{length, getD, replicate}
 use Rattle.rules.specs.Choice.{pick}
 use Rattle.rules.specs.Buffers.{flat}
 use Rattle.rules.specs.World.{System}
-use Rattle.rules.specs.Entries.{flatOutside, run}
-use Rattle.rules.proofs.Accounts.{demand3-flat}
-use Rattle.session.specs.Records.{recordAt}
-use Rattle.session.specs.Lines.{recordLine, countsLine, faultLine}
+use Rattle.rules.specs.Entries.{Poke, flatOutside, run}
+use Rattle.rules.proofs.Accounts.{demand3}
+use Rattle.rules.proofs.Reached.{every-reached}
+use Rattle.records.specs.Records.{recordAt}
+use Rattle.records.proofs.Choosing.{both}
+use Rattle.lines.specs.Lines.{recordLine, countsLine, faultLine}
 use Rattle.session.specs.Effects.{effect}
 use Rattle.session.specs.Sessions.{Ended, endedBy, lineBefore, recordsFrom, session, decodedFrom, decoded, entriesOf, linesOf, lastLine, start, SessionRuns}
-use Rattle.session.specs.declared.parse.Record.{Record}
+use Rattle.records.specs.declared.Record.{Record}
+use Rattle.session.proofs.Entries.{session-writes}
 
 -- of bytes xs: what is ended from a system on, with the records decoded, is their run
 record Agrees (xs : List ℕ) (s : System (List ℕ)) (e : Ended) (rs : List Record) : Type 0 where
@@ -45,12 +48,6 @@ agrees-more xs s r e rs h =
           ∙ sym (append-assoc (recordLine (r .number) (effect xs r s .number) (effect xs r s .byte)) _ _);
     }
 
--- two choices by one test
-pub both {κ} : {X Y : Type 0} (P : X → Y → Type κ) (t : Bool) (x x′ : X) (y y′ : Y) → (t ≡ true → P x y) → (t ≡ false → P x′ y′) → P (pick t x x′) (pick t y y′)
-unfolding pick
-both P true x x′ y y′ f g = f refl
-both P false x x′ y y′ f g = g refl
-
 from : (most : ℕ) (xs : List ℕ) (p : ℕ) (s : System (List ℕ)) → Agrees xs s (recordsFrom most xs p s) (decodedFrom most xs p)
 unfolding recordsFrom decodedFrom
 from zero xs p s = agrees-end xs s
@@ -68,8 +65,12 @@ agrees xs =
 
 pub session-runs : (xs : List ℕ) → SessionRuns xs
 session-runs xs =
+    let zeros : List ℕ = replicate 65536 0 in
+    let accounted = demand3 (List ℕ) (List Poke) flat flatOutside zeros zeros (entriesOf xs (decoded xs)) in
     record {
       system = agrees xs .system;
       lines = agrees xs .lines;
-      accounted = demand3-flat .0 (replicate 65536 0) (replicate 65536 0) (entriesOf xs (decoded xs));
+      accounted = accounted;
+      reached = λ b. every-reached (List ℕ) (List Poke) flat flatOutside zeros zeros (entriesOf xs (decoded xs)) (session-writes xs b);
+      splits = λ b. accounted .splits (session-writes xs b);
     }

@@ -1,19 +1,15 @@
 -- A step that writes a line.
 -- Assumes nothing.
-use Prim.Native.Nat.{ℕ, _+_, _≤_}
+use Prim.Native.Nat.{ℕ}
 use native.Mathlib.Omega.{arith}
-use mathlib.Core.Path.{_≡_, refl, ap, _∙_}
+use mathlib.Core.Path.{_≡_, ap, _∙_}
 use mathlib.Core.List.{List}
-use borrow.Author.Tests.{leb-false}
-use lib.Dec.{leb}
 use lib.ListN.{length}
 use Rattle.rules.specs.Calls.{Answer}
-use Rattle.rules.proofs.Choice.{pick-cases}
-use Rattle.session.specs.Records.{longLength}
-use Rattle.session.specs.Lines.{Put, recordLine}
+use Rattle.lines.specs.Lines.{Put, recordLine}
 use Rattle.session.specs.Effects.{effectAnswer}
 use Rattle.session.specs.Steps.{Said, inPhase, withLine, said, outcome, carried}
-use Rattle.session.specs.declared.parse.Record.{Record}
+use Rattle.records.specs.declared.Record.{Record}
 use Rattle.session.specs.declared.effect.Effect.{Effect}
 use Rattle.session.specs.declared.step.Session.{Session}
 
@@ -27,11 +23,3 @@ pub carried-put : (r : Record) {out out′ m l : List ℕ} {n : ℕ} {s : Sessio
 carried-put r {out} {out′} {m} {l} e h p q =
     ap (λ (x : Said). record { said = x; buffers = record { memory = m; latches = l } }) (spoken-put 0 0 (r .next) p q)
     ∙ ap (λ (x : Answer (List ℕ)). carried r x out) h
-
--- a record can be too long only where its length is there
-pub long-there : (xs : List ℕ) (p : ℕ) → (longLength xs p ≡ 0 → ⊥) → p + 2 ≤ length xs
-unfolding longLength
-long-there xs p =
-    pick-cases (λ (n : ℕ). (n ≡ 0 → ⊥) → p + 2 ≤ length xs) (leb (length xs) p) _ _ (λ e f. absurd (f refl))
-    (λ e. pick-cases (λ (n : ℕ). (n ≡ 0 → ⊥) → p + 2 ≤ length xs) (leb (length xs) (p + 1)) _ _ (λ e f. absurd (f refl))
-    (λ e f. omega (arith, leb-false (length xs) (p + 1) e)))

@@ -3,148 +3,29 @@
 -- Assumes nothing.
 use Prim.Native.Nat.{ℕ, zero, suc, _+_, _-_, _≤_, _<_}
 use native.Mathlib.Omega.{arith}
-use native.Mathlib.Numerals.{add-one}
 use mathlib.Core.Path.{_≡_, refl, sym, ap, _∙_}
 use mathlib.Core.Bool.{true}
-use mathlib.Core.List.{List, [], _∷_, _++_, append-assoc, append-nil}
-use borrow.Author.Tests.{le-leb, lt-leb, leb-true, leb-false, lt-ltb, le-ltb, ltb-true, eq-eqb, ne-eqb, eqb-true, eqb-false}
+use mathlib.Core.List.{List}
+use borrow.Author.Tests.{le-leb, lt-leb, leb-true, leb-false, le-ltb, eq-eqb, ne-eqb, eqb-true, eqb-false}
 use lib.Dec.{eqb, leb}
-use lib.ListN.{length, getD, take, set, length-set, List·getD-eq-default}
-use lib.Seq.{take-suc-set}
+use lib.ListN.{length, getD, List·getD-eq-default}
 use Rattle.rules.specs.Choice.{pick}
 use Rattle.rules.specs.Buffers.{Buffers, placed}
 use Rattle.rules.specs.World.{System}
 use Rattle.rules.specs.Calls.{Answer}
-use Rattle.rules.proofs.Choice.{pick-true, pick-false, pick-both, pick-cases, either, clash}
+use Rattle.rules.proofs.Choice.{pick-true, pick-false, either, clash}
 use Rattle.zxndma.specs.Answers.{deviceAtPowerOn}
 use Rattle.zxndma.specs.declared.Device.{Device}
-use Rattle.session.specs.Records.{none, short, behind, word, writeRecord, readRecord, grantRecord, memoryRecord, ofKind, recordAt, longLength}
-use Rattle.session.specs.Lines.{recordLine, countsLine, faultLine}
+use Rattle.records.specs.Records.{none, recordAt, longLength}
+use Rattle.lines.specs.Lines.{recordLine, countsLine, faultLine}
 use Rattle.session.specs.Effects.{effect}
 use Rattle.session.specs.Steps.{Said, Outcome, inPhase, sessionAtStart, deviceOf, systemWith, carried, lastCounts, lastFault, withoutLine, buffersKept, versionStep, longStep, byRecord, recordStep, stepOf}
 use Rattle.session.specs.Sessions.{Ended, endedBy, lineBefore, recordsFrom, session, start, lineIn, systemIn, stepsFrom, StepsRead, AllRead}
-use Rattle.session.specs.declared.parse.Record.{Record}
-use Rattle.session.proofs.Runs.{both}
-use Rattle.session.proofs.Room.{number-room, record-room, counts-room}
-
--- ---- the line that was put is the line that is taken
-
-placed-taken : (at : ℕ) (bytes l : List ℕ) → at + length bytes ≤ length l → take (at + length bytes) (placed at bytes l) ≡ take at l ++ bytes
-unfolding placed
-placed-taken at [] l h = ap (λ (n : ℕ). take n l) (let z : at + 0 ≡ at = omega arith in z) ∙ sym (append-nil (take at l))
-placed-taken at (x ∷ bytes) l h =
-    ap
-    (λ (n : ℕ). take n (placed (at + 1) bytes (set l at x)))
-    (let z : at + suc (length bytes) ≡ at + 1 + length bytes = omega arith in z)
-    ∙ placed-taken (at + 1) bytes (set l at x) (omega (arith, length-set l at x))
-    ∙ ap (λ (n : ℕ). take n (set l at x) ++ bytes) (add-one at)
-    ∙ ap (λ (t : List ℕ). t ++ bytes) (take-suc-set l at x (omega arith))
-    ∙ append-assoc (take at l) (x ∷ []) bytes
-
-put-taken : (bytes out : List ℕ) → length bytes ≤ length out → take (length bytes) (placed 0 bytes out) ≡ bytes
-put-taken bytes out h =
-    ap (λ (n : ℕ). take n (placed 0 bytes out)) (let z : length bytes ≡ 0 + length bytes = omega arith in z)
-    ∙ placed-taken 0 bytes out (omega arith)
-
-placed-size : (at : ℕ) (bytes l : List ℕ) → length (placed at bytes l) ≡ length l
-unfolding placed
-placed-size at [] l = refl
-placed-size at (x ∷ bytes) l = placed-size (at + 1) bytes (set l at x) ∙ length-set l at x
-
--- ---- what can stand at a place where the input has ended
-
--- a record there takes bytes
-pub record Stands (p : ℕ) (r : Record) : Type 0 where
-  pub some : 0 < r .number
-  pub takes : (r .number ≡ 5 → ⊥) → (20 ≤ r .number → ⊥) → p < r .next
-
-no-record : (p number : ℕ) → 20 ≤ number → Stands p (none number p)
-no-record p number h = record { some = omega arith; takes = λ e f. absurd (f h) }
-
-module _ (xs : List ℕ) (p : ℕ) where
-  pub stands-kind : (n k : ℕ) → Stands p (ofKind xs p n k)
-  unfolding ofKind writeRecord readRecord grantRecord memoryRecord
-  stands-kind n k =
-      pick-both (Stands p) _ _ _
-      (pick-both (Stands p) _ _ _ (record { some = omega arith; takes = λ e f. omega arith }) (no-record p 22 (omega arith)))
-      (pick-both (Stands p) _ _ _
-      (pick-both (Stands p) _ _ _ (record { some = omega arith; takes = λ e f. omega arith }) (no-record p 22 (omega arith)))
-      (pick-both (Stands p) _ _ _
-      (pick-both (Stands p) _ _ _ (record { some = omega arith; takes = λ e f. omega arith }) (no-record p 22 (omega arith)))
-      (pick-both (Stands p) _ _ _
-      (pick-both (Stands p) _ _ _ (no-record p 22 (omega arith))
-      (pick-both (Stands p) _ _ _ (no-record p 22 (omega arith)) (record { some = omega arith; takes = λ e f. omega arith })))
-      (no-record p 22 (omega arith)))))
-
-  stands-short : Stands p (short true p)
-  unfolding short pick
-  stands-short = no-record p 21 (omega arith)
-
-  stands-behind : Stands p (behind true p)
-  unfolding behind pick
-  stands-behind = record { some = omega arith; takes = λ e f. absurd (e refl) }
-
-  stands : Stands p (recordAt xs p true)
-  unfolding recordAt
-  stands =
-      pick-both (Stands p) _ _ _ stands-behind
-      (pick-both (Stands p) _ _ _ stands-short
-      (pick-both (Stands p) _ _ _ stands-short
-      (pick-both (Stands p) _ _ _ (no-record p 22 (omega arith)) (stands-kind (word xs p) (getD xs (p + 2) 0)))))
-
-  -- behind the last byte stands the end
-  at-end : length xs ≤ p → recordAt xs p true ≡ none 5 p
-  unfolding recordAt behind pick
-  at-end h = simp (le-leb (length xs) p h)
-
-  short-end : length xs ≤ p → longLength xs p ≡ 0
-  unfolding longLength pick
-  short-end h = simp (le-leb (length xs) p h)
-
-  -- ---- a record that is too long for any kind
-
-  kind-long : (n k : ℕ) → 258 < n → ofKind xs p n k ≡ none 22 p
-  unfolding ofKind writeRecord readRecord grantRecord memoryRecord
-  kind-long n k h =
-      pick-both (λ (r : Record). r ≡ none 22 p) _ _ _ (pick-false _ _ _ (ne-eqb n 4 (λ e. omega (arith, e))))
-      (pick-both (λ (r : Record). r ≡ none 22 p) _ _ _ (pick-false _ _ _ (ne-eqb n 3 (λ e. omega (arith, e))))
-      (pick-both (λ (r : Record). r ≡ none 22 p) _ _ _ (pick-false _ _ _ (ne-eqb n 5 (λ e. omega (arith, e))))
-      (pick-both (λ (r : Record). r ≡ none 22 p) _ _ _
-      (pick-both (λ (r : Record). r ≡ none 22 p) _ _ _ refl (pick-true _ _ _ (lt-ltb 258 n h)))
-      refl)))
-
-  -- its length is at hand, and it is the word there
-  record Long (n : ℕ) : Type 0 where
-    there : p + 1 < length xs
-    most : 258 < word xs p
-    size : n ≡ word xs p
-
-  long : (longLength xs p ≡ 0 → ⊥) → Long (longLength xs p)
-  unfolding longLength
-  long =
-      pick-cases (λ (n : ℕ). (n ≡ 0 → ⊥) → Long n) _ _ _ (λ e f. absurd (f refl))
-      (λ e. pick-cases (λ (n : ℕ). (n ≡ 0 → ⊥) → Long n) _ _ _ (λ g f. absurd (f refl))
-      (λ g. pick-cases (λ (n : ℕ). (n ≡ 0 → ⊥) → Long n) _ _ _
-      (λ h f. record { there = leb-false (length xs) (p + 1) g; most = ltb-true 258 (word xs p) h; size = refl })
-      (λ h f. absurd (f refl))))
-
-  record-whole : Long (longLength xs p) → longLength xs p ≤ length xs - (p + 2) → recordAt xs p true ≡ none 22 p
-  unfolding recordAt
-  record-whole l h =
-      pick-false _ _ _ (lt-leb (length xs) p (omega (arith, l .there)))
-      ∙ pick-false _ _ _ (lt-leb (length xs) (p + 1) (l .there))
-      ∙ pick-false _ _ _ (le-ltb (length xs - (p + 2)) (word xs p) (omega (arith, l .size, h)))
-      ∙ pick-false _ _ _ (ne-eqb (word xs p) 0 (λ e. omega (arith, l .most, e)))
-      ∙ kind-long (word xs p) (getD xs (p + 2) 0) (l .most)
-
-  record-cut : Long (longLength xs p) → length xs - (p + 2) < longLength xs p → recordAt xs p true ≡ none 21 p
-  unfolding recordAt short pick
-  record-cut l h =
-      simp (
-        lt-leb (length xs) p (omega (arith, l .there)),
-        lt-leb (length xs) (p + 1) (l .there),
-        lt-ltb (length xs - (p + 2)) (word xs p) (omega (arith, l .size, h)),
-      )
+use Rattle.records.specs.declared.Record.{Record}
+use Rattle.records.proofs.Choosing.{both}
+use Rattle.records.proofs.Standing.{Stands, stands, at-end, short-end, long, record-whole, record-cut}
+use Rattle.lines.proofs.Putting.{put-taken, placed-size}
+use Rattle.lines.proofs.Room.{number-room, record-room, counts-room}
 
 -- ---- what follows a step
 
@@ -203,7 +84,7 @@ module _ (xs out : List ℕ) (room : 72 ≤ length out) (b : Buffers (List ℕ))
       (omega (arith, placed-size 0 (recordLine (r .number) (a .number) (a .byte)) out)))
 
   -- what stands at a place, taken by a step
-  onward-record : (k most p : ℕ) (r : Record) → Stands p r → (p < r .next → onward k xs (carried r (effect xs r (systemWith d b)) out) ≡ lineBefore (recordLine (r .number) (effect xs r (systemWith d b) .number) (effect xs r (systemWith d b) .byte)) (recordsFrom most xs (r .next) (effect xs r (systemWith d b) .system))) → onward k xs (byRecord r (inPhase 1 0 d) xs out b) ≡ after most xs r (systemWith d b)
+  onward-record : (k most p : ℕ) (r : Record) → Stands xs p r → (p < r .next → onward k xs (carried r (effect xs r (systemWith d b)) out) ≡ lineBefore (recordLine (r .number) (effect xs r (systemWith d b) .number) (effect xs r (systemWith d b) .byte)) (recordsFrom most xs (r .next) (effect xs r (systemWith d b) .system))) → onward k xs (byRecord r (inPhase 1 0 d) xs out b) ≡ after most xs r (systemWith d b)
   unfolding byRecord after
   onward-record k most p r s h =
       ap (onward k xs) (pick-false _ _ _ (ne-eqb (r .number) 0 (λ e. omega (arith, s .some, e))))

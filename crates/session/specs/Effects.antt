@@ -10,8 +10,8 @@ use Rattle.rules.specs.World.{System}
 use Rattle.rules.specs.Calls.{Answer}
 use Rattle.rules.specs.Entries.{Poke, flatOutside, ownMemory, ownLatches, Entry, portWrite, portRead, clockGrant, outsideChange, enter}
 use Rattle.zxndma.specs.Answers.{systemOf}
-use Rattle.session.specs.Records.{writeKind, readKind, grantKind, memoryKind}
-use Rattle.session.specs.declared.parse.Record.{Record}
+use Rattle.records.specs.Records.{writeKind, readKind, grantKind, memoryKind}
+use Rattle.records.specs.declared.Record.{Record}
 use Rattle.session.specs.declared.effect.Effect.{Effect}
 
 -- so many bytes from place p on, put into memory from an address on; addresses wrap at 65,536

@@ -1,7 +1,7 @@
-pub mod Records
-pub mod Lines
 pub mod Effects
 pub mod Steps
 pub mod Sessions
+pub mod RoundTrip
+pub mod Served
 pub mod Pieces
 pub mod Examples

@@ -4,20 +4,25 @@
 use Prim.Native.Nat.{ℕ, zero, suc, _+_, _≤_}
 use mathlib.Core.Path.{_≡_}
 use mathlib.Core.Bool.{true}
+use mathlib.Core.Logic.{_⊎_}
 use mathlib.Core.List.{List, [], _∷_, _++_}
 use lib.Dec.{eqb, leb}
 use lib.ListN.{length, getD, take, replicate}
 use Rattle.rules.specs.Choice.{pick}
+use Rattle.rules.specs.Bytes.{AreBytes}
 use Rattle.rules.specs.Buffers.{Buffers, flat}
 use Rattle.rules.specs.World.{System}
 use Rattle.rules.specs.Calls.{Answer}
 use Rattle.rules.specs.Entries.{Poke, flatOutside, Entry, Answered, Run, run, systemAtPowerOn}
+use Rattle.rules.specs.History.{History, history, pastAtPowerOn}
+use Rattle.rules.specs.Splitting.{SplitsAt}
 use Rattle.rules.specs.Accounts.{Accounted}
-use Rattle.session.specs.Records.{inputEnds, recordAt}
-use Rattle.session.specs.Lines.{recordLine, countsLine, faultLine}
+use Rattle.rules.specs.Reached.{Reached}
+use Rattle.records.specs.Records.{version, noVersion, inputEnds, recordAt}
+use Rattle.lines.specs.Lines.{recordLine, countsLine, faultLine}
 use Rattle.session.specs.Effects.{entryOf, effect}
-use Rattle.session.specs.Steps.{isOver, room, version, noVersion, Outcome, sessionAtStart, systemWith, stepOf}
-use Rattle.session.specs.declared.parse.Record.{Record}
+use Rattle.session.specs.Steps.{isOver, room, Outcome, sessionAtStart, systemWith, stepOf}
+use Rattle.records.specs.declared.Record.{Record}
 use Rattle.session.specs.declared.step.Session.{Session}
 
 -- what a session comes to: the bytes of its lines, its fault or 0, and device and buffers at the end
@@ -52,6 +57,14 @@ recordsFrom (suc most) xs p s =
 unfoldable pub session : List ℕ → Ended
 session xs = pick (eqb (getD xs 0 0) version) (recordsFrom (length xs) xs 1 start) (endedBy (faultLine noVersion) noVersion start)
 
+-- the numbers that a session's fault can have: none, no version, a record cut short, a wrong record
+abbrev pub FaultNumber : ℕ → Type 0
+FaultNumber n = (n ≡ 0) ⊎ (n ≡ 20) ⊎ (n ≡ 21) ⊎ (n ≡ 22)
+
+-- a session has no other fault
+abbrev pub FaultKnown : List ℕ → Type 0
+FaultKnown xs = FaultNumber (session xs .fault)
+
 -- a session leaves no record behind: to allow for more records changes nothing
 abbrev pub AllRead : List ℕ → Type 0
 AllRead xs = (more : ℕ) → recordsFrom (more + length xs) xs 1 start ≡ recordsFrom (length xs) xs 1 start
@@ -77,6 +90,11 @@ entriesOf xs (r ∷ rs) = entryOf xs r ∷ entriesOf xs rs
 abbrev pub runOf : List ℕ → Run (List ℕ)
 runOf xs = run flat flatOutside (entriesOf xs (decoded xs)) start
 
+-- and their history
+abbrev pub historyOf : List ℕ → History (List ℕ)
+historyOf xs =
+    history flat flatOutside (entriesOf xs (decoded xs)) (pastAtPowerOn (replicate 65536 0) (replicate 65536 0))
+
 -- the lines of records, by their kinds and their answers
 unfoldable pub linesOf : List Record → List Answered → List ℕ
 linesOf [] answers = []
@@ -88,11 +106,13 @@ unfoldable pub lastLine : ℕ → System (List ℕ) → List ℕ
 lastLine fault s = pick (eqb fault 0) (countsLine (s .clocks)) (faultLine fault)
 
 -- a session is the run of its calls: device and buffers at the end are the run's, the lines are those of the run's answers,
--- in order, and the last one; and demand 3 holds of its list
+-- in order, and the last one; demand 3 holds of its list, and its device is valid and its grants split
 pub record SessionRuns (xs : List ℕ) : Type 0 where
   pub system : session xs .system ≡ runOf xs .system
   pub lines : session xs .lines ≡ linesOf (decoded xs) (runOf xs .answers) ++ lastLine (session xs .fault) (runOf xs .system)
-  pub accounted : Accounted flat flatOutside (replicate 65536 0) (replicate 65536 0) (entriesOf xs (decoded xs))
+  pub accounted : Accounted (entriesOf xs (decoded xs)) (runOf xs) (historyOf xs)
+  pub reached : AreBytes xs → Reached (runOf xs) (historyOf xs)
+  pub splits : AreBytes xs → SplitsAt flat (runOf xs .system)
 
 -- ---- the session as it is read by steps
 

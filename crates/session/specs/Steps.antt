@@ -13,10 +13,10 @@ use Rattle.rules.specs.World.{System}
 use Rattle.rules.specs.Calls.{Answer}
 use Rattle.zxndma.specs.Answers.{deviceAtPowerOn, systemOf}
 use Rattle.zxndma.specs.declared.Device.{Device}
-use Rattle.session.specs.Records.{moreNeeded, inputEnds, cutShort, wrongRecord, recordAt, longLength}
-use Rattle.session.specs.Lines.{recordLine, countsLine, faultLine}
+use Rattle.records.specs.Records.{version, noVersion, moreNeeded, inputEnds, cutShort, wrongRecord, recordAt, longLength}
+use Rattle.lines.specs.Lines.{recordLine, countsLine, faultLine}
 use Rattle.session.specs.Effects.{effect}
-use Rattle.session.specs.declared.parse.Record.{Record}
+use Rattle.records.specs.declared.Record.{Record}
 use Rattle.session.specs.declared.step.Session.{Session}
 use Rattle.session.specs.declared.step.Step.{Step}
 
@@ -68,14 +68,6 @@ noRoom = 9
 -- the bytes that the slice for a line must have
 abbrev pub room : ℕ
 room = 72
-
--- the version of a session
-abbrev pub version : ℕ
-version = 1
-
--- the fault of a session whose version is missing or not 1; no fault has a lower number
-abbrev pub noVersion : ℕ
-noVersion = 20
 
 -- no line: the number, the next place, the session
 abbrev pub stepWithoutLine : ℕ → ℕ → Session → Step

@@ -6,8 +6,7 @@ ghost use Rattle.rules.specs.Entries.{poked};
 ghost use Rattle.zxndma.specs.Answers.{systemOf};
 ghost use Rattle.session.specs.Effects.{pokes, effectAnswer};
 ghost use Rattle.session.specs.Effects.{effect as effectOf};
-use crate::parse;
-use crate::parse::Record;
+use records::Record;
 use zxndma::Device;
 
 // What a record is answered with: its number, the byte of a port read, and the device afterwards.
@@ -21,7 +20,7 @@ pub struct Effect {
 fn store(memory: &mut [u8], address: u16, byte: u8)
     ensures { λ r. ⌜ now (memory .exit) ≡ set (now (memory .entry)) address byte ⌝ }
 {
-    let at = parse::index(address);
+    let at = records::index(address);
     if at < memory.len() {
         memory[at] = byte;
         return;
@@ -35,7 +34,7 @@ fn poke(input: &[u8], start: usize, end: usize, memory: &mut [u8], address: u16)
     let mut at = start;
     let mut to = address;
     while at < end {
-        let byte = parse::byte_at(input, at);
+        let byte = records::byte_at(input, at);
         store(memory, to, byte);
         to = std::num::wrapping_add_u16(to, 1);
         at += 1;
@@ -52,7 +51,7 @@ pub fn carry_out(
 ) -> Effect
     ensures { λ r. ⌜ effectAnswer r (now (memory .exit)) (now (latches .exit)) ≡ effectOf (now (input .entry)) found (systemOf device (now (memory .entry)) (now (latches .entry))) ⌝ }
 {
-    if found.number == parse::WRITE {
+    if found.number == records::WRITE {
         let answer = device.write(found.word, found.byte);
         let after = answer.device;
         return Effect {
@@ -61,7 +60,7 @@ pub fn carry_out(
             device: after,
         };
     }
-    if found.number == parse::READ {
+    if found.number == records::READ {
         let answer = device.read(found.word);
         let after = answer.device;
         return Effect {
@@ -70,7 +69,7 @@ pub fn carry_out(
             device: after,
         };
     }
-    if found.number == parse::GRANT {
+    if found.number == records::GRANT {
         let answer = device.grant(memory, latches, found.clocks);
         let after = answer.device;
         return Effect {
@@ -79,7 +78,7 @@ pub fn carry_out(
             device: after,
         };
     }
-    if found.number == parse::MEMORY {
+    if found.number == records::MEMORY {
         poke(input, found.start, found.next, memory, found.word);
         return Effect {
             number: 0,

@@ -1,5 +1,3 @@
-// Sessions of the bench program: the records of a session's bytes, what each does, and the lines that are written.
+// Sessions of the bench program, a step at a time: what each record does, and the line that it writes.
 mod effect;
-mod line;
-mod parse;
 pub mod step;

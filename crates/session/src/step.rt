@@ -7,9 +7,7 @@ ghost use Rattle.zxndma.specs.Answers.{systemOf};
 ghost use Rattle.session.specs.Steps.{sessionAtStart, inPhase, stepWithoutLine, lastFault, lastCounts, versionStep, longStep, carried, byRecord, recordStep, stepOf, said, outcome};
 ghost use Rattle.session.specs.Effects.{effect as effectOf};
 use crate::effect;
-use crate::line;
-use crate::parse;
-use crate::parse::Record;
+use records::Record;
 use zxndma::Device;
 
 // The phases of a session.
@@ -90,7 +88,7 @@ fn say_fault(fault: u8, next: usize, device: Device, out: &mut [u8]) -> Step
     requires { ⌜ 72 ≤ length (now out) ⌝ }
     ensures { λ r. ⌜ said r (now (out .exit)) ≡ lastFault fault next device (now (out .entry)) ⌝ }
 {
-    let length = line::put_fault_line(fault, out);
+    let length = lines::put_fault_line(fault, out);
     let session = in_phase(OVER, 0, device);
     Step {
         number: IS_OVER,
@@ -107,7 +105,7 @@ fn say_counts(next: usize, device: Device, out: &mut [u8]) -> Step
     ensures { λ r. ⌜ said r (now (out .exit)) ≡ lastCounts next device (now (out .entry)) ⌝ }
 {
     let clocks = device.clocks;
-    let length = line::put_counts_line(clocks, out);
+    let length = lines::put_counts_line(clocks, out);
     let session = in_phase(OVER, 0, device);
     Step {
         number: IS_OVER,
@@ -156,10 +154,10 @@ fn long_step(session: Session, input: &[u8], place: usize, ended: bool, out: &mu
     let left = session.left;
     let rest = rest_of(input.len(), place);
     if left <= rest {
-        return say_fault(parse::WRONG, place + left, device, out);
+        return say_fault(records::WRONG, place + left, device, out);
     }
     if ended {
-        return say_fault(parse::CUT, place + rest, device, out);
+        return say_fault(records::CUT, place + rest, device, out);
     }
     let next = in_phase(LONG, left - rest, device);
     say_nothing(WAITS, place + rest, next)
@@ -178,7 +176,7 @@ fn carry(
     ensures { λ r. ⌜ outcome r (now (out .exit)) (now (memory .exit)) (now (latches .exit)) ≡ carried found (effectOf (now (input .entry)) found (systemOf device (now (memory .entry)) (now (latches .entry)))) (now (out .entry)) ⌝ }
 {
     let done = effect::carry_out(found, input, device, memory, latches);
-    let length = line::put_record_line(found.number, done.number, done.byte, out);
+    let length = lines::put_record_line(found.number, done.number, done.byte, out);
     let after = done.device;
     let session = in_phase(RECORDS, 0, after);
     Step {
@@ -203,10 +201,10 @@ fn by_record(
     ensures { λ r. ⌜ outcome r (now (out .exit)) (now (memory .exit)) (now (latches .exit)) ≡ byRecord found session (now (input .entry)) (now (out .entry)) (borrowed (now (memory .entry)) (now (latches .entry))) ⌝ }
 {
     let device = session.device;
-    if found.number == parse::MORE {
+    if found.number == records::MORE {
         return say_nothing(WAITS, found.next, session);
     }
-    if found.number == parse::END {
+    if found.number == records::END {
         return say_counts(found.next, device, out);
     }
     if FAULTS <= found.number {
@@ -228,9 +226,9 @@ fn record_step(
     requires { ⌜ 72 ≤ length (now out) ⌝ }
     ensures { λ r. ⌜ outcome r (now (out .exit)) (now (memory .exit)) (now (latches .exit)) ≡ recordStep session (now (input .entry)) place ended (now (out .entry)) (borrowed (now (memory .entry)) (now (latches .entry))) ⌝ }
 {
-    let long = parse::long_length(input, place);
+    let long = records::long_length(input, place);
     if long == 0 {
-        let found = parse::record_at(input, place, ended);
+        let found = records::record_at(input, place, ended);
         return by_record(found, session, input, out, memory, latches);
     }
     let device = session.device;
@@ -265,7 +263,7 @@ impl Session {
     ) -> Step
         ensures { λ r. ⌜ (outcome r (now (out .exit)) (now (memory .exit)) (now (latches .exit)) ≡ stepOf self (now (input .entry)) place ended (now (out .entry)) (borrowed (now (memory .entry)) (now (latches .entry)))) × (r .length ≤ length (now (out .entry))) ⌝ }
     {
-        if out.len() < line::ROOM {
+        if out.len() < lines::ROOM {
             return say_nothing(NO_ROOM, place, self);
         }
         if self.phase == VERSION {

@@ -4,12 +4,6 @@ use Rattle.session.proofs.Carrying.{carried-write, carried-read, carrie
 use borrow.Author.Needs.{needs}
 use Rattle.session.proofs.effect.carry_out.Statement.{statement}
 use Rattle.session.proofs.effect.carry_out.Tie as tie
-use Rattle.session.proofs.effect.carry_out.Reads as reads
-use Rattle.session.proofs.effect.carry_out.Lts as lts
-use Rattle.session.proofs.effect.poke.Reads as poke-reads
-use Rattle.zxndma.proofs.Device.grant.Reads as grant-reads
-use Rattle.zxndma.proofs.Device.read.Reads as read-reads
-use Rattle.zxndma.proofs.Device.write.Reads as write-reads
 
 -- src/effect.rt:56:13
 write-requires : tie.Need-write-requires

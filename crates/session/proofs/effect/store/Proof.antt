@@ -6,9 +6,6 @@ use lib.Seq.{set-out}
 use borrow.Author.Needs.{needs}
 use Rattle.session.proofs.effect.store.Statement.{statement}
 use Rattle.session.proofs.effect.store.Tie as tie
-use Rattle.session.proofs.effect.store.Reads as reads
-use Rattle.session.proofs.effect.store.Lts as lts
-use Rattle.session.proofs.parse.index.Reads as index-reads
 
 -- src/effect.rt:24:9
 index-requires : tie.Need-index-requires

@@ -3,7 +3,7 @@
 use Rattle.rules.specs.Choice.{pick}
 use Rattle.session.specs.Steps.{recordStep}
 use borrow.Author.Tests.{eq-eqb, ne-eqb}
-use Rattle.session.proofs.Saying.{long-there}
+use Rattle.records.proofs.Standing.{long-there}
 use native.Mathlib.Omega.{arith}
 use mathlib.Core.Path.{_∙_}
 use borrow.Author.Needs.{needs}

@@ -1,0 +1,41 @@
+-- Runs of bytes put one behind the other are their concatenation put.
+-- Assumes nothing.
+use Rattle.lines.proofs.Putting.{put-more, put-as}
+use Rattle.lines.specs.Lines.{decimalTo}
+use mathlib.Core.Path.{ap}
+use borrow.Author.Needs.{needs}
+use Rattle.lines.proofs.put_number_line.Statement.{statement}
+use Rattle.lines.proofs.put_number_line.Tie as tie
+
+put-byte-requires : tie.Need-put-byte-requires
+put-byte-requires c κs = search needs
+
+put-byte-requires-2 : tie.Need-put-byte-requires-2
+put-byte-requires-2 c κs = search needs
+
+wide-requires : tie.Need-wide-requires
+wide-requires c κs = search needs
+
+put-decimal-requires : tie.Need-put-decimal-requires
+put-decimal-requires c κs = search needs
+
+put-byte-requires-3 : tie.Need-put-byte-requires-3
+put-byte-requires-3 c κs = search needs
+
+same-length : tie.Need-same-length
+same-length c = search needs
+
+returns : tie.Need-returns
+returns c = put-more (c .before .before .before .before .before .before .before .before .before .before .before .before .before .before .before .put-byte .ensures) (put-more (c .before .before .before .before .before .before .before .before .before .before .before .put-byte2 .ensures) (put-more (put-as (ap (decimalTo 20) (c .before .before .before .before .before .before .before .before .wide .ensures)) (c .before .before .before .before .before .before .put-decimal .ensures .0)) (c .before .before .put-byte3 .ensures)))
+
+pub put-number-line-spec : {M : Type 1} → statement M
+put-number-line-spec =
+    tie.close
+    (tie.spec
+    put-byte-requires
+    put-byte-requires-2
+    wide-requires
+    put-decimal-requires
+    put-byte-requires-3
+    same-length
+    returns)

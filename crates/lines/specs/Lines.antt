@@ -1,0 +1,57 @@
+-- The lines that a session writes, as ASCII bytes. Every line ends with one line feed.
+-- Assumes nothing.
+use Prim.Native.Nat.{ℕ, zero, suc, _+_, _/_, _%_}
+use mathlib.Core.Path.{_≡_}
+use mathlib.Core.List.{List, [], _∷_, _++_}
+use lib.Dec.{eqb, ltb}
+use lib.ListN.{length}
+use Rattle.rules.specs.Choice.{pick}
+use Rattle.rules.specs.Buffers.{placed}
+use Rattle.rules.specs.declared.Clocks.{Clocks}
+use Rattle.records.specs.Records.{writeKind, readKind, grantKind}
+
+-- the decimal digits of a number that has at most so many, without zeros in front
+unfoldable pub decimalTo : ℕ → ℕ → List ℕ
+decimalTo zero n = []
+decimalTo (suc most) n = pick (ltb n 10) ((48 + n) ∷ []) (decimalTo most (n / 10) ++ ((48 + n % 10) ∷ []))
+
+-- a number of 64 bits has at most 20 digits
+abbrev pub decimal : ℕ → List ℕ
+decimal n = decimalTo 20 n
+
+-- the capital hex digit of a number below 16
+unfoldable pub hexDigit : ℕ → ℕ
+hexDigit d = pick (ltb d 10) (48 + d) (55 + d)
+
+-- a letter, a space, a number
+abbrev pub numberLine : ℕ → ℕ → List ℕ
+numberLine letter number = letter ∷ 32 ∷ (decimal number ++ (10 ∷ []))
+
+-- a port read: R and its number; an accepted one with the byte in two capital hex digits
+unfoldable pub readLine : ℕ → ℕ → List ℕ
+readLine number byte =
+    pick (eqb number 0)
+    (82 ∷ 32 ∷ 48 ∷ 32 ∷ hexDigit (byte / 16) ∷ hexDigit (byte % 16) ∷ 10 ∷ [])
+    (numberLine 82 number)
+
+-- a record's line by its kind: W, R, G or M
+unfoldable pub recordLine : ℕ → ℕ → ℕ → List ℕ
+recordLine kind number byte =
+    pick (eqb kind writeKind) (numberLine 87 number)
+    (pick (eqb kind readKind) (readLine number byte)
+    (pick (eqb kind grantKind) (numberLine 71 number) (numberLine 77 number)))
+
+-- the last line of a session without a fault: B and the clock counts, bus, held, CPU
+abbrev pub countsLine : Clocks → List ℕ
+countsLine k = 66 ∷ 32 ∷ (decimal (k .bus) ++ (32 ∷ (decimal (k .held) ++ (32 ∷ (decimal (k .cpu) ++ (10 ∷ []))))))
+
+-- the last line of a session with a fault: S and its number
+abbrev pub faultLine : ℕ → List ℕ
+faultLine number = numberLine 83 number
+
+-- these bytes were put into a list from this place on, and the next place is the one behind them; the length follows from
+-- the first part, and is stated so that proofs find it
+pub record Put (l : List ℕ) (at : ℕ) (bytes after : List ℕ) (next : ℕ) : Type 0 where
+  pub list : after ≡ placed at bytes l
+  pub place : next ≡ at + length bytes
+  pub size : length after ≡ length l

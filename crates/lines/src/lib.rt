@@ -1,0 +1,154 @@
+// The lines that a session writes. Each `put_` function puts its bytes at the front of a borrowed slice, or from a place
+// on, and answers the place behind them.
+ghost use mathlib.Core.Path.{_≡_};
+ghost use mathlib.Core.List.{[], _∷_};
+ghost use Prim.Native.Nat.{_+_, _≤_, _<_};
+ghost use lib.ListN.{length};
+ghost use Rattle.lines.specs.Lines.{decimalTo, hexDigit, numberLine, readLine, recordLine, countsLine, faultLine, Put};
+use rules::Clocks;
+
+// The room that a caller lends for a line. The longest, of three counts with 20 digits each, has 65 bytes.
+pub const ROOM: usize = 72;
+
+// The most digits of a number of 64 bits.
+const DIGITS: usize = 20;
+
+// The letters of the lines.
+const WRITE: u8 = b'W';
+
+const READ: u8 = b'R';
+
+const GRANT: u8 = b'G';
+
+const MEMORY: u8 = b'M';
+
+const COUNTS: u8 = b'B';
+
+const FAULT: u8 = b'S';
+
+const ZERO: u8 = b'0';
+
+const SPACE: u8 = b' ';
+
+const LINE_FEED: u8 = b'\n';
+
+fn wide(x: u8) -> u64
+    ensures { λ r. ⌜ r ≡ x ⌝ }
+{
+    x as u64
+}
+
+// The digit of a number below 10.
+fn digit(n: u64) -> u8
+    requires { ⌜ n < 10 ⌝ }
+    ensures { λ r. ⌜ r ≡ 48 + n ⌝ }
+{
+    ZERO + n as u8
+}
+
+// The capital hex digit of a number below 16.
+fn hex_digit(n: u8) -> u8
+    requires { ⌜ n < 16 ⌝ }
+    ensures { λ r. ⌜ r ≡ hexDigit n ⌝ }
+{
+    if n < 10 {
+        return ZERO + n;
+    }
+    55 + n
+}
+
+fn put_byte(byte: u8, line: &mut [u8], at: usize) -> usize
+    requires { ⌜ at < length (now line) ⌝ }
+    ensures { λ r. ⌜ Put (now (line .entry)) at (byte ∷ []) (now (line .exit)) r ⌝ }
+{
+    line[at] = byte;
+    at + 1
+}
+
+// The decimal digits of a number that has at most so many.
+fn put_decimal(most: usize, n: u64, line: &mut [u8], at: usize) -> usize
+    requires { ⌜ at + most ≤ length (now line) ⌝ }
+    ensures { λ r. ⌜ Put (now (line .entry)) at (decimalTo most n) (now (line .exit)) r ⌝ }
+    ensures { λ r. ⌜ r ≤ at + most ⌝ }
+{
+    if most == 0 {
+        return at;
+    }
+    if n < 10 {
+        let last = digit(n);
+        return put_byte(last, line, at);
+    }
+    let next = put_decimal(most - 1, n / 10, line, at);
+    let last = digit(n % 10);
+    put_byte(last, line, next)
+}
+
+// A letter, a space, a number.
+fn put_number_line(letter: u8, number: u8, line: &mut [u8]) -> usize
+    requires { ⌜ 72 ≤ length (now line) ⌝ }
+    ensures { λ r. ⌜ Put (now (line .entry)) 0 (numberLine letter number) (now (line .exit)) r ⌝ }
+{
+    let at = put_byte(letter, line, 0);
+    let at = put_byte(SPACE, line, at);
+    let at = put_decimal(DIGITS, wide(number), line, at);
+    put_byte(LINE_FEED, line, at)
+}
+
+// The line of a port read: an accepted one with its byte.
+fn put_read_line(number: u8, byte: u8, line: &mut [u8]) -> usize
+    requires { ⌜ 72 ≤ length (now line) ⌝ }
+    ensures { λ r. ⌜ Put (now (line .entry)) 0 (readLine number byte) (now (line .exit)) r ⌝ }
+{
+    if number == 0 {
+        let high = hex_digit(byte / 16);
+        let low = hex_digit(byte % 16);
+        let at = put_byte(READ, line, 0);
+        let at = put_byte(SPACE, line, at);
+        let at = put_byte(ZERO, line, at);
+        let at = put_byte(SPACE, line, at);
+        let at = put_byte(high, line, at);
+        let at = put_byte(low, line, at);
+        return put_byte(LINE_FEED, line, at);
+    }
+    put_number_line(READ, number, line)
+}
+
+// The line of a record of this kind, answered with this number and, for a port read, this byte.
+pub fn put_record_line(kind: u8, number: u8, byte: u8, line: &mut [u8]) -> usize
+    requires { ⌜ 72 ≤ length (now line) ⌝ }
+    ensures { λ r. ⌜ Put (now (line .entry)) 0 (recordLine kind number byte) (now (line .exit)) r ⌝ }
+{
+    if kind == records::WRITE {
+        return put_number_line(WRITE, number, line);
+    }
+    if kind == records::READ {
+        return put_read_line(number, byte, line);
+    }
+    if kind == records::GRANT {
+        return put_number_line(GRANT, number, line);
+    }
+    put_number_line(MEMORY, number, line)
+}
+
+// The last line of a session without a fault.
+pub fn put_counts_line(clocks: Clocks, line: &mut [u8]) -> usize
+    requires { ⌜ 72 ≤ length (now line) ⌝ }
+    ensures { λ r. ⌜ Put (now (line .entry)) 0 (countsLine clocks) (now (line .exit)) r ⌝ }
+{
+    let at = put_byte(COUNTS, line, 0);
+    let at = put_byte(SPACE, line, at);
+    let at = put_decimal(DIGITS, clocks.bus, line, at);
+    let at = put_byte(SPACE, line, at);
+    let at = put_decimal(DIGITS, clocks.held, line, at);
+    let at = put_byte(SPACE, line, at);
+    let at = put_decimal(DIGITS, clocks.cpu, line, at);
+    put_byte(LINE_FEED, line, at)
+}
+
+// The last line of a session with a fault.
+pub fn put_fault_line(number: u8, line: &mut [u8]) -> usize
+    requires { ⌜ 72 ≤ length (now line) ⌝ }
+    ensures { λ r. ⌜ Put (now (line .entry)) 0 (faultLine number) (now (line .exit)) r ⌝ }
+{
+    put_number_line(FAULT, number, line)
+}

@@ -1,0 +1,6 @@
+pub mod Choosing
+pub mod Bytes
+pub mod Standing
+pub mod Pieces
+pub mod Moving
+pub mod Encoding

@@ -1,0 +1,34 @@
+-- A session's calls write bytes and lend its own buffers, which have their length: so what holds of every list's answers
+-- leaves neither 1, 4 nor 5.
+-- Assumes nothing.
+use Prim.Native.Nat.{ℕ}
+use mathlib.Core.List.{List, [], _∷_}
+use lib.ListN.{replicate, length-replicate}
+use Rattle.rules.specs.Buffers.{flat}
+use Rattle.rules.specs.World.{System}
+use Rattle.rules.specs.Entries.{Poke, flatOutside, Entry, enter, run}
+use Rattle.rules.specs.Reached.{NoneIs, LendsMemory, LendsLatches, OwnServe}
+use Rattle.rules.proofs.Reached.{answers-reached}
+use Rattle.records.specs.declared.Record.{Record}
+use Rattle.session.specs.Effects.{entryOf}
+use Rattle.session.specs.Sessions.{start, decoded, entriesOf}
+use Rattle.session.specs.Served.{EverySessionServed}
+use Rattle.session.proofs.Entries.{each-kind, session-writes}
+
+module _ (xs : List ℕ) where
+  -- of a run from any system: 4 and 5 are answered to other buffers only, and none is lent
+  buffers-serve : (rs : List Record) (s : System (List ℕ)) → OwnServe (entriesOf xs rs) (run flat flatOutside (entriesOf xs rs) s .answers) → NoneIs 4 (run flat flatOutside (entriesOf xs rs) s .answers) × NoneIs 5 (run flat flatOutside (entriesOf xs rs) s .answers)
+  unfolding entriesOf run OwnServe NoneIs
+  buffers-serve [] s h = (tt, tt)
+  buffers-serve (r ∷ rs) s h =
+      let rest = buffers-serve rs (enter flat flatOutside (entryOf xs r) s .system) (h .2) in (
+        (λ z. each-kind xs (λ (e : Entry flat (List Poke)). LendsMemory e → ⊥) r (λ l. l) (λ l. l) (λ l. l) (λ ps l. l) (h .0 z), rest .0),
+        (λ z. each-kind xs (λ (e : Entry flat (List Poke)). LendsLatches e → ⊥) r (λ l. l) (λ l. l) (λ l. l) (λ ps l. l) (h .1 z), rest .1),
+      )
+
+pub served : EverySessionServed
+served xs small =
+    let answers = answers-reached (replicate 65536 0) (replicate 65536 0) (entriesOf xs (decoded xs)) (session-writes xs small) in
+    let size = length-replicate {A = ℕ} 65536 0 in
+    let serve = buffers-serve xs (decoded xs) start (answers .1 size size) in
+    record { device = answers .0; memory = serve .0; latches = serve .1 }

@@ -1,0 +1,17 @@
+-- A session never answers 1, 4 or 5: its device is valid, and its buffers have their length.
+-- Assumes nothing.
+use Prim.Native.Nat.{ℕ}
+use mathlib.Core.List.{List}
+use Rattle.rules.specs.Bytes.{AreBytes}
+use Rattle.rules.specs.Reached.{NoneIs}
+use Rattle.session.specs.Sessions.{runOf}
+
+-- of a session's calls: none is refused for the device, none for the memory, none for the latches
+pub record Served (xs : List ℕ) : Type 0 where
+  pub device : NoneIs 1 (runOf xs .answers)
+  pub memory : NoneIs 4 (runOf xs .answers)
+  pub latches : NoneIs 5 (runOf xs .answers)
+
+-- of every list of bytes
+abbrev pub EverySessionServed : Type 0
+EverySessionServed = (xs : List ℕ) → AreBytes xs → Served xs
