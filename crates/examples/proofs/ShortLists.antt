@@ -4,10 +4,9 @@ use Prim.Native.Nat.{ℕ}
 use mathlib.Core.Path.{_≡_, refl}
 use mathlib.Core.List.{[]}
 use lib.ListN.{length}
-use Rattle.rules.specs.Buffers.{flat}
 use Rattle.rules.specs.Opened.{opened}
 use Rattle.examples.specs.ShortLists.{sent, found, must, ListsShown}
 
-pub lists-shown : (memory : flat .refusal [] ≡ 0 → ⊥) (latches : length {A = ℕ} [] ≡ 65536 → ⊥) → ListsShown memory latches
+pub lists-shown : (wrong : length {A = ℕ} [] ≡ 65536 → ⊥) → ListsShown wrong
 unfolding opened sent found must
-lists-shown memory latches = refl
+lists-shown wrong = refl

@@ -8,7 +8,7 @@ use mathlib.Core.List.{List, [], _∷_}
 use lib.ListN.{length, drop, replicate}
 use Rattle.rules.specs.Clock.{Kind, busClock, cpuClock}
 use Rattle.rules.specs.Buffers.{flat}
-use Rattle.rules.specs.Entries.{Poke, flatOutside, ownMemory, otherMemory, ownLatches, otherLatches, Entry, portWrite, clockGrant, outsideChange}
+use Rattle.rules.specs.Entries.{Poke, flatOutside, Entry, portWrite, clockGrant, otherGrant, outsideChange}
 use Rattle.rules.specs.History.{Event, clockNoted, counterZeroed, Past, History, history, pastAtPowerOn}
 
 -- bytes written to port 006B before other entries
@@ -18,7 +18,7 @@ sent (byte ∷ bytes) es = portWrite 0x6B byte ∷ sent bytes es
 
 -- a grant of the list's own buffers, and a byte put into memory from outside
 abbrev pub granting : ℕ → Entry flat (List Poke)
-granting n = clockGrant n ownMemory ownLatches
+granting n = clockGrant n
 
 abbrev pub poking : ℕ → ℕ → Entry flat (List Poke)
 poking address byte = outsideChange (record { address = address; byte = byte } ∷ [])
@@ -78,8 +78,12 @@ abbrev pub worked : List ℕ → List (Entry flat (List Poke)) → List ℕ → 
 worked program entries numbers sum events =
     record { program = program; entries = entries; noted = record { numbers = numbers; sum = sum; events = events } }
 
--- of a memory and latches that are lent in place of the list's own, and refused
-module _ (memory : flat .refusal [] ≡ 0 → ⊥) (latches : length {A = ℕ} [] ≡ 65536 → ⊥) where
+-- empty latches are of a wrong length
+module _ (wrong : length {A = ℕ} [] ≡ 65536 → ⊥) where
+  -- a grant that lends this memory and empty latches
+  abbrev pub lending : List ℕ → Entry flat (List Poke)
+  lending m = otherGrant 5 (record { memory = m; latches = [] }) (λ e. wrong)
+
   abbrev pub shortLists : List Worked
   shortLists =
       -- Load and Continue are noted at a counter of 0 too
@@ -100,7 +104,7 @@ module _ (memory : flat .refusal [] ≡ 0 → ⊥) (latches : length {A = ℕ} [
       ∷ worked (blocks 1 0x82) (granting 3 ∷ poking 0x1000 0xA5 ∷ granting 1 ∷ poking 0x1000 0xB6 ∷ []) (0 ∷ 0 ∷ 0 ∷ 0 ∷ []) 4
       (movingClock 0x1000 0x2000 0xA5 none ∷ threeBefore (counterZeroed 0 ∷ []))
       -- a grant that lends another memory or other latches is refused, and neither noted nor added
-      ∷ worked [] (clockGrant 5 (otherMemory [] memory) ownLatches ∷ clockGrant 5 ownMemory (otherLatches [] latches) ∷ []) (4 ∷ 5 ∷ []) 0 []
+      ∷ worked [] (lending [] ∷ lending (replicate 65536 0) ∷ []) (4 ∷ 5 ∷ []) 0 []
       -- refusal 6 is judged by the sum: after 1 clock there is room for 2^64 - 2 more
       ∷ worked [] (granting 1 ∷ granting 18446744073709551615 ∷ granting 1 ∷ []) (0 ∷ 6 ∷ 0 ∷ []) 2
       (stillClock cpuClock ∷ stillClock cpuClock ∷ [])

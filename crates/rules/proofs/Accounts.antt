@@ -18,7 +18,7 @@ use Rattle.rules.specs.Buffers.{Store, Buffers}
 use Rattle.rules.specs.World.{World, System, Note, step, note, stepCounted, clocked}
 use Rattle.rules.specs.Refusals.{accessRefusal, grantRefusal}
 use Rattle.rules.specs.Calls.{Reply, Answer, writeReply, readReply, beside, write, read, grantNumber, grant}
-use Rattle.rules.specs.Entries.{Outside, BorrowedMemory, ownMemory, otherMemory, BorrowedLatches, ownLatches, otherLatches, Entry, portWrite, portRead, clockGrant, outsideChange, besideBuffers, borrowedBuffers, ownBuffersAfter, grantBorrowed, enter, run, systemAtPowerOn}
+use Rattle.rules.specs.Entries.{Outside, Entry, portWrite, portRead, clockGrant, otherGrant, outsideChange, besideBuffers, grantOther, enter, run, systemAtPowerOn}
 use Rattle.rules.specs.History.{Event, clockNoted, counterZeroed, Past, withCore, writePassed, clockPassed, clocksPassed, grantPassed, unlessRefused, noteEntry, history, pastAtPowerOn}
 use Rattle.rules.specs.Accounts.{ofKind, clocksNoted, bytesOf, bytesNoted, heldBefore, zeroedNoted, clocksAsked, clocksAccepted, numbersOf, Demand3}
 use Rattle.rules.specs.declared.Clocks.{Clocks}
@@ -184,40 +184,24 @@ module _ {M : Type 0} (σ : Store M) where
       (λ d. record { number = refl; agree = as-before s es c; sum = refused-clocks (grantNumber σ s n) n _ (eqb-false _ _ d) })
 
 module _ {M C : Type 0} (σ : Store M) (ω : Outside M C) where
-  -- the list keeps its own buffers
-  own-after : (m : BorrowedMemory σ) (l : BorrowedLatches) (b : Buffers M) → ownBuffersAfter m l b (borrowedBuffers m l b) ≡ b
-  own-after ownMemory ownLatches b = refl
-  own-after ownMemory (otherLatches l wrong) b = refl
-  own-after (otherMemory m wrong) ownLatches b = refl
-  own-after (otherMemory m wrong) (otherLatches l bad) b = refl
+  -- the refusal number of a grant that lends other buffers
+  abbrev otherNumber : System M → ℕ → Buffers M → ℕ
+  otherNumber s n b = grantRefusal σ (s .world .core) (total (s .clocks)) b n
 
-  -- the refusal number of a grant with the buffers lent
-  abbrev borrowedNumber : System M → ℕ → BorrowedMemory σ → BorrowedLatches → ℕ
-  borrowedNumber s n m l = grantRefusal σ (s .world .core) (total (s .clocks)) (borrowedBuffers m l (s .world .buffers)) n
+  -- it is refused, and nothing changes
+  other-answer : (s : System M) (n : ℕ) (b : Buffers M) → (otherNumber s n b ≡ 0 → ⊥) → _≡_ {A = Answer M} (record { number = otherNumber s n b; byte = 0; system = s }) (grantOther σ ω s n b)
+  other-answer s n b wrong =
+      ap (λ (a : Answer M). record { number = a .number; byte = a .byte; system = besideBuffers (s .world .buffers) (a .system) })
+      (grant-refuses σ (besideBuffers b s) n (otherNumber s n b) refl wrong)
 
-  -- a grant with other buffers is refused, and nothing changes
-  other-answer : (s : System M) (n : ℕ) (m : BorrowedMemory σ) (l : BorrowedLatches) → (borrowedNumber s n m l ≡ 0 → ⊥) → _≡_ {A = Answer M} (record { number = borrowedNumber s n m l; byte = 0; system = s }) (grantBorrowed σ ω s n m l)
-  other-answer s n m l wrong =
-      (λ i. record { number = borrowedNumber s n m l; byte = 0; system = besideBuffers (sym (own-after m l (s .world .buffers)) i) s })
-      ∙ ap
-      (λ (a : Answer M). record { number = a .number; byte = a .byte; system = besideBuffers (ownBuffersAfter m l (s .world .buffers) (a .system .world .buffers)) (a .system) })
-      (grant-refuses σ (besideBuffers (borrowedBuffers m l (s .world .buffers)) s) n (borrowedNumber s n m l) refl wrong)
-
-  other-step : (s : System M) (es : List Event) (n : ℕ) (m : BorrowedMemory σ) (l : BorrowedLatches) → (borrowedNumber s n m l ≡ 0 → ⊥) → Counts (s .clocks) es (s .world .core .block .counter) → Step n s (grantBorrowed σ ω s n m l) (borrowedNumber s n m l) (unlessRefused (borrowedNumber s n m l) (grantPassed σ n (pastOf s es)) (pastOf s es) .past)
+  other-step : (s : System M) (es : List Event) (n : ℕ) (b : Buffers M) → (otherNumber s n b ≡ 0 → ⊥) → Counts (s .clocks) es (s .world .core .block .counter) → Step n s (grantOther σ ω s n b) (otherNumber s n b) (unlessRefused (otherNumber s n b) (grantPassed σ n (pastOf s es)) (pastOf s es) .past)
   unfolding unlessRefused
-  other-step s es n m l wrong c =
-      subst (λ (a : Answer M). Step n s a (borrowedNumber s n m l) (unlessRefused (borrowedNumber s n m l) (grantPassed σ n (pastOf s es)) (pastOf s es) .past))
-      (other-answer s n m l wrong)
-      (subst (λ (p : Past M). Step n s (record { number = borrowedNumber s n m l; byte = 0; system = s }) (borrowedNumber s n m l) p)
+  other-step s es n b wrong c =
+      subst (λ (a : Answer M). Step n s a (otherNumber s n b) (unlessRefused (otherNumber s n b) (grantPassed σ n (pastOf s es)) (pastOf s es) .past))
+      (other-answer s n b wrong)
+      (subst (λ (p : Past M). Step n s (record { number = otherNumber s n b; byte = 0; system = s }) (otherNumber s n b) p)
       (sym (pick-false _ _ _ (ne-eqb _ _ wrong)))
-      (record { number = refl; agree = as-before σ s es c; sum = refused-clocks (borrowedNumber s n m l) n _ wrong }))
-
-  grant-step : (s : System M) (es : List Event) (n : ℕ) (m : BorrowedMemory σ) (l : BorrowedLatches) → Counts (s .clocks) es (s .world .core .block .counter) → Step n s (grantBorrowed σ ω s n m l) (borrowedNumber s n m l) (unlessRefused (borrowedNumber s n m l) (grantPassed σ n (pastOf s es)) (pastOf s es) .past)
-  grant-step s es n ownMemory ownLatches c = own-step σ s es n c
-  grant-step s es n ownMemory (otherLatches l wrong) c =
-      other-step s es n ownMemory (otherLatches l wrong) (λ e. wrong (granted σ _ _ _ n e .latches)) c
-  grant-step s es n (otherMemory m wrong) l c =
-      other-step s es n (otherMemory m wrong) l (λ e. wrong (granted σ _ _ _ n e .memory)) c
+      (record { number = refl; agree = as-before σ s es c; sum = refused-clocks (otherNumber s n b) n _ wrong }))
 
   -- ---- one entry
 
@@ -225,7 +209,9 @@ module _ {M C : Type 0} (σ : Store M) (ω : Outside M C) where
   unfolding unlessRefused
   entry-literal (portWrite port byte) s es c = write-step σ s es port byte _ refl c
   entry-literal (portRead port) s es c = read-step σ s es port _ refl c
-  entry-literal (clockGrant n m l) s es c = grant-step s es n m l c
+  entry-literal (clockGrant n) s es c = own-step σ s es n c
+  entry-literal (otherGrant n b wrong) s es c =
+      other-step s es n b (λ e. let g = granted σ _ _ b n e in wrong (g .memory) (g .latches)) c
   entry-literal (outsideChange x) s es c =
       record { number = refl; agree = record { world = refl; sum = refl; counts = c }; sum = no-clocks _ _ }
 

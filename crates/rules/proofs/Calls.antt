@@ -14,7 +14,7 @@ use Rattle.rules.specs.Validity.{valid, total, most64}
 use Rattle.rules.specs.Facts.{ValidParts, InRange}
 use Rattle.rules.specs.Buffers.{Store, flat, Buffers}
 use Rattle.rules.specs.World.{System, clocked}
-use Rattle.rules.specs.Refusals.{wrongPort, accessRefusal, grantRefusal}
+use Rattle.rules.specs.Refusals.{wrongPort, accessRefusal, lentRefusal, grantRefusal}
 use Rattle.rules.specs.Calls.{Reply, Answer, writeReply, readReply, write, read, grantNumber, grant}
 use Rattle.rules.specs.Keeping.{ValidDevice, StaysValid, StaysValidByTest, HandsBack}
 use Rattle.rules.specs.Opened.{opened}
@@ -70,7 +70,7 @@ pub record Granted {M : Type 0} (σ : Store M) (c : Core) (sum : ℕ) (b : Buffe
 
 module _ {M : Type 0} (σ : Store M) where
   pub granted : (c : Core) (sum : ℕ) (b : Buffers M) (n : ℕ) → grantRefusal σ c sum b n ≡ 0 → Granted σ c sum b n
-  unfolding grantRefusal
+  unfolding grantRefusal lentRefusal
   granted c sum b n e =
       let h = missed _ _ (tells 0 _) e in
       let i = missed _ _ (λ t z. eqb-false _ _ (not-true _ t) z) (h .1) in
@@ -84,7 +84,7 @@ module _ {M : Type 0} (σ : Store M) where
       }
 
   pub grantable : (c : Core) (sum : ℕ) (b : Buffers M) (n : ℕ) → Granted σ c sum b n → grantRefusal σ c sum b n ≡ 0
-  unfolding grantRefusal firstHit
+  unfolding grantRefusal lentRefusal firstHit
   grantable c sum b n g =
       pick-false _ _ _ (ap not (g .state))
       ∙ pick-false _ _ _ (ap not (eq-eqb _ _ (g .memory)))

@@ -2,10 +2,10 @@
 -- Assumes nothing.
 use Prim.Native.Nat.{ℕ}
 use native.Mathlib.Omega.{arith}
-use mathlib.Core.Path.{_≡_, refl, sym}
+use mathlib.Core.Path.{_≡_, refl, sym, _∙_}
 use mathlib.Core.Bool.{Bool, true, false, _&&_, _||_, not}
 use mathlib.Core.List.{List, [], _∷_}
-use Rattle.rules.specs.Choice.{pick, every, any}
+use Rattle.rules.specs.Choice.{pick, every, any, means}
 
 -- true is not false
 pub clash {ℓ} : {X : Type ℓ} → false ≡ true → X
@@ -127,6 +127,16 @@ any-cases false ts e f g = g e
 pub any-none {ℓ} : {X : Type ℓ} → any [] ≡ true → X
 unfolding any
 any-none e = clash e
+
+-- ---- one test means another
+
+pub means-so : (s t : Bool) → means s t ≡ true → s ≡ true → t ≡ true
+unfolding means
+means-so s t e h = sym (pick-true _ _ _ h) ∙ e
+
+pub so-means : (s t : Bool) → (s ≡ true → t ≡ true) → means s t ≡ true
+unfolding means
+so-means s t f = pick-cases (λ (u : Bool). u ≡ true) s t true f (λ h. refl)
 
 -- some test of a list, as strict code computes it
 pub any-last : (t : Bool) → any (t ∷ []) ≡ t

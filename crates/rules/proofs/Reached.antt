@@ -16,10 +16,10 @@ use Rattle.rules.specs.Clock.{Clock, slotClock, firstClock, clockOf}
 use Rattle.rules.specs.Buffers.{Store, lengthRefusal, flat, Buffers}
 use Rattle.rules.specs.World.{World, System}
 use Rattle.rules.specs.Refusals.{accessRefusal, grantRefusal}
-use Rattle.rules.specs.Entries.{Outside, Poke, flatOutside, ownMemory, otherMemory, ownLatches, otherLatches, Entry, portWrite, portRead, clockGrant, outsideChange, bytesWritten, enter, run}
+use Rattle.rules.specs.Entries.{Outside, Poke, flatOutside, Entry, portWrite, portRead, clockGrant, otherGrant, outsideChange, bytesWritten, enter, run}
 use Rattle.rules.specs.History.{Past, writePassed, unlessRefused, clocksPassed, noteEntry, history}
 use Rattle.rules.specs.Accounts.{heldBefore}
-use Rattle.rules.specs.Reached.{CountersNoted, EveryReached, NoneIs, LendsMemory, LendsLatches, OwnServe, AnswersReached}
+use Rattle.rules.specs.Reached.{CountersNoted, EveryReached, NoneIs, LendsOther, OwnServe, AnswersReached}
 use Rattle.rules.specs.declared.Core.{Core}
 use Rattle.rules.proofs.Choice.{clash, pick-true, pick-false, pick-cases, pick-both, either, all-true}
 use Rattle.rules.proofs.Slots.{unmoved-below}
@@ -70,7 +70,9 @@ module _ {M C : Type 0} (σ : Store M) (ω : Outside M C) where
       pick-both (λ (q : Past M). CountersNoted (q .events)) _ _ _
       (pick-both (λ (q : Past M). CountersNoted (q .events)) _ _ _ (k .valid .counter, h) h) h
   entry-noted (portRead port) p k h = pick-both (λ (q : Past M). CountersNoted (q .events)) _ _ _ h h
-  entry-noted (clockGrant n m l) p k h =
+  entry-noted (clockGrant n) p k h =
+      pick-both (λ (q : Past M). CountersNoted (q .events)) _ _ _ (clocks-noted σ n _ k h .0) h
+  entry-noted (otherGrant n b wrong) p k h =
       pick-both (λ (q : Past M). CountersNoted (q .events)) _ _ _ (clocks-noted σ n _ k h .0) h
   entry-noted (outsideChange x) p k h = h
 
@@ -106,7 +108,9 @@ entry-answered (portWrite port byte) s v h =
     not-number _ 1 (access-exact _ _ port .one ∙ ap not (device-valid _ _ v)) (sym (refusals-exact .write _ _ port byte) ∙ h)
 entry-answered (portRead port) s v h =
     not-number _ 1 (access-exact _ _ port .one ∙ ap not (device-valid _ _ v)) (sym (refusals-exact .read _ _ port) ∙ h)
-entry-answered (clockGrant n m l) s v h =
+entry-answered (clockGrant n) s v h =
+    not-number _ 1 (grant-exact _ _ _ n .one ∙ ap not (device-valid _ _ v)) (sym (refusals-exact .granted _ n) ∙ h)
+entry-answered (otherGrant n b wrong) s v h =
     not-number _ 1 (grant-exact _ _ _ n .one ∙ ap not (device-valid _ _ v)) (sym (refusals-exact .granted _ n) ∙ h)
 entry-answered (outsideChange x) s v h = absurd (omega (arith, h))
 
@@ -124,13 +128,9 @@ record Own (b : Buffers (List ℕ)) : Type 0 where
 entry-own : (e : Entry flat (List Poke)) (s : System (List ℕ)) → Own (s .world .buffers) → Own (enter flat flatOutside e s .system .world .buffers)
 entry-own (portWrite port byte) s o = o
 entry-own (portRead port) s o = o
-entry-own (clockGrant n ownMemory ownLatches) s o =
+entry-own (clockGrant n) s o =
     let h = grant-same flat s n in record { memory = h .memory ∙ o .memory; latches = h .latches ∙ o .latches }
-entry-own (clockGrant n ownMemory (otherLatches l wrong)) s o =
-    record { memory = grant-same flat _ n .memory ∙ o .memory; latches = o .latches }
-entry-own (clockGrant n (otherMemory m wrong) ownLatches) s o =
-    record { memory = o .memory; latches = grant-same flat _ n .latches ∙ o .latches }
-entry-own (clockGrant n (otherMemory m wrong) (otherLatches l bad)) s o = o
+entry-own (otherGrant n b wrong) s o = o
 entry-own (outsideChange x) s o =
     record { memory = ap lengthRefusal (pokes-keep-length x _) ∙ o .memory; latches = o .latches }
 
@@ -149,21 +149,20 @@ grant-not-five c sum b n l e =
     let h = all-true _ (sym (grant-exact c sum b n .five) ∙ eq-eqb _ 5 e) in
     clash (sym (not-true _ (h .1 .1 .0)) ∙ eq-eqb _ _ l)
 
--- 4 and 5 are answered to a grant that lends another buffer
-entry-four : (e : Entry flat (List Poke)) (s : System (List ℕ)) → Own (s .world .buffers) → enter flat flatOutside e s .number ≡ 4 → LendsMemory e
+-- 4 and 5 are answered to a grant that lends other buffers
+entry-four : (e : Entry flat (List Poke)) (s : System (List ℕ)) → Own (s .world .buffers) → enter flat flatOutside e s .number ≡ 4 → LendsOther e
 entry-four (portWrite port byte) s o h = access-small _ _ port _ 4 (refusals-exact .write _ _ port byte) h (omega arith)
 entry-four (portRead port) s o h = access-small _ _ port _ 4 (refusals-exact .read _ _ port) h (omega arith)
-entry-four (clockGrant n ownMemory l) s o h =
+entry-four (clockGrant n) s o h =
     grant-not-four _ _ _ n (flat-memory (s .world .buffers .memory) (o .memory)) (sym (refusals-exact .granted _ n) ∙ h)
-entry-four (clockGrant n (otherMemory m wrong) l) s o h = tt
+entry-four (otherGrant n b wrong) s o h = tt
 entry-four (outsideChange x) s o h = absurd (omega (arith, h))
 
-entry-five : (e : Entry flat (List Poke)) (s : System (List ℕ)) → Own (s .world .buffers) → enter flat flatOutside e s .number ≡ 5 → LendsLatches e
+entry-five : (e : Entry flat (List Poke)) (s : System (List ℕ)) → Own (s .world .buffers) → enter flat flatOutside e s .number ≡ 5 → LendsOther e
 entry-five (portWrite port byte) s o h = access-small _ _ port _ 5 (refusals-exact .write _ _ port byte) h (omega arith)
 entry-five (portRead port) s o h = access-small _ _ port _ 5 (refusals-exact .read _ _ port) h (omega arith)
-entry-five (clockGrant n m ownLatches) s o h =
-    grant-not-five _ _ _ n (o .latches) (sym (refusals-exact .granted _ n) ∙ h)
-entry-five (clockGrant n m (otherLatches l wrong)) s o h = tt
+entry-five (clockGrant n) s o h = grant-not-five _ _ _ n (o .latches) (sym (refusals-exact .granted _ n) ∙ h)
+entry-five (otherGrant n b wrong) s o h = tt
 entry-five (outsideChange x) s o h = absurd (omega (arith, h))
 
 own-serve : (es : List (Entry flat (List Poke))) (s : System (List ℕ)) → Own (s .world .buffers) → OwnServe es (run flat flatOutside es s .answers)

@@ -11,7 +11,7 @@ use Rattle.rules.specs.Choice.{pick, every, test, firstHit}
 use Rattle.rules.specs.Validity.{total}
 use Rattle.rules.specs.Buffers.{flat, Buffers}
 use Rattle.rules.specs.World.{System}
-use Rattle.rules.specs.Refusals.{accessRefusal, grantRefusal}
+use Rattle.rules.specs.Refusals.{accessRefusal, lentRefusal, grantRefusal}
 use Rattle.rules.specs.Calls.{Reply, Answer, writeReply, readReply, grantNumber, grant}
 use Rattle.rules.specs.Exactly.{AccessExact, GrantExact, RefusalsExact}
 use Rattle.rules.specs.declared.Clocks.{Clocks}
@@ -67,7 +67,7 @@ four-tests true true true true =
     record { one = refl; four = refl; five = refl; six = refl; none = refl; not-two = refl; not-three = refl; most = refl }
 
 pub grant-exact : (c : Core) (sum : ℕ) (b : Buffers (List ℕ)) (n : ℕ) → GrantExact c sum b n
-unfolding grantRefusal
+unfolding grantRefusal lentRefusal
 grant-exact c sum b n =
     let h = four-tests _ _ _ _ in
     record {

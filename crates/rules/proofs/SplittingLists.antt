@@ -11,7 +11,7 @@ use borrow.Author.Tests.{eq-eqb}
 use Rattle.rules.specs.Buffers.{Store}
 use Rattle.rules.specs.World.{System}
 use Rattle.rules.specs.Calls.{Answer, grantNumber, grant}
-use Rattle.rules.specs.Entries.{Outside, ownMemory, ownLatches, Entry, clockGrant, Answered, Run, enter, run, systemAtPowerOn}
+use Rattle.rules.specs.Entries.{Outside, Entry, clockGrant, Answered, Run, enter, run, systemAtPowerOn}
 use Rattle.rules.specs.History.{Past, History, unlessRefused, clockPassed, clocksPassed, grantPassed, noteEntry, history, pastAtPowerOn}
 use Rattle.rules.specs.Splitting.{sumOf, AcceptedInTurn, grants, acceptedAnswers, SplitsWithin}
 use Rattle.rules.proofs.Choice.{pick-true, pick-both}
@@ -84,16 +84,16 @@ module _ {M C : Type 0} (σ : Store M) (ω : Outside M C) where
   granted-none p = λ i. withSum (add-zero (p .sum) i) p
 
   -- an accepted grant in the history of a run
-  grant-noted : (n : ℕ) (s : System M) (p : Past M) → Agree s p → grant σ s n .number ≡ 0 → noteEntry σ ω (clockGrant n ownMemory ownLatches) p .past ≡ grantPassed σ n p
+  grant-noted : (n : ℕ) (s : System M) (p : Past M) → Agree s p → grant σ s n .number ≡ 0 → noteEntry σ ω (clockGrant n) p .past ≡ grantPassed σ n p
   unfolding unlessRefused
-  grant-noted n s p a e = pick-true _ _ _ (eq-eqb _ 0 (sym (entry-step σ ω (clockGrant n ownMemory ownLatches) s p a .number) ∙ e))
+  grant-noted n s p a e = pick-true _ _ _ (eq-eqb _ 0 (sym (entry-step σ ω (clockGrant n) s p a .number) ∙ e))
 
   -- grants that are accepted in turn
   grants-noted : (ns : List ℕ) (s t : System M) (p : Past M) → Agree s p → AcceptedInTurn σ ns s t → history σ ω (grants ns) p .past ≡ grantPassed σ (sumOf ns) p
   unfolding history grants AcceptedInTurn sumOf
   grants-noted [] s t p a h = sym (granted-none p)
   grants-noted (n ∷ ns) s t p a h =
-      grants-noted ns _ t _ (entry-step σ ω (clockGrant n ownMemory ownLatches) s p a .agree) (h .1)
+      grants-noted ns _ t _ (entry-step σ ω (clockGrant n) s p a .agree) (h .1)
       ∙ ap (grantPassed σ (sumOf ns)) (grant-noted n s p a (h .0))
       ∙ sym (granted-add n (sumOf ns) p)
 

@@ -2,13 +2,12 @@
 -- Assumes nothing.
 use Prim.Native.Nat.{_≤_, _<_}
 use native.Mathlib.Omega.{arith}
-use mathlib.Core.Path.{_≡_, sym, _∙_}
-use mathlib.Core.Bool.{Bool, true, false}
+use mathlib.Core.Path.{_≡_, sym, _∙_, ap}
+use mathlib.Core.Bool.{Bool, true, false, not}
 use mathlib.Core.List.{[], _∷_}
-use lib.Dec.{eqb}
-use borrow.Author.Tests.{ltb-true, leb-true, eqb-true, eqb-false, lt-ltb, le-leb, eq-eqb, ne-eqb, not-true}
-use Rattle.rules.specs.Choice.{every}
-use Rattle.rules.specs.Blocks.{finished}
+use lib.Dec.{leb, ltb, eqb}
+use borrow.Author.Tests.{ltb-true, leb-true, leb-false, eqb-true, eqb-false, lt-ltb, le-ltb, le-leb, eq-eqb, ne-eqb, not-true}
+use Rattle.rules.specs.Blocks.{blockCount, finished}
 use Rattle.rules.specs.Slots.{unmoved}
 use Rattle.rules.specs.Validity.{validPort, validReadback, restingSlot, validLength, runningSlot, validSlot, validProgress, validCore}
 use Rattle.rules.specs.Facts.{ValidParts, ValidCycle, ValidReading, Resting, SlotLength, busTime, prescaled, Running, ValidSlot, resting, running}
@@ -17,7 +16,7 @@ use Rattle.rules.specs.declared.Block.{Block}
 use Rattle.rules.specs.declared.Readback.{Readback}
 use Rattle.rules.specs.declared.Slot.{Slot}
 use Rattle.rules.specs.declared.Core.{Core}
-use Rattle.rules.proofs.Choice.{clash, pick-true, pick-false, not-of-false, either, all-true, true-all, any-first, any-more, any-cases, any-none}
+use Rattle.rules.proofs.Choice.{pick-true, pick-false, not-of-false, either, all-true, true-all, means-so, so-means, any-first, any-more, any-cases, any-none}
 
 -- ---- the core, part by part
 
@@ -109,17 +108,23 @@ facts-slot t s (running on r) =
 
 -- ---- progress
 
+-- below the block count is not at or above it
+pub unfinished-below : (b : Block) → ltb (b .counter) (blockCount b) ≡ not (finished b)
+unfolding finished
+unfinished-below b =
+    either (leb (blockCount b) (b .counter))
+    (λ e. le-ltb _ _ (leb-true (blockCount b) (b .counter) e) ∙ sym (ap not e))
+    (λ e. lt-ltb _ _ (leb-false (blockCount b) (b .counter) e) ∙ sym (ap not e))
+
 pub progress-facts : (t : Bool) (b : Block) (s : Slot) → validProgress t b s ≡ true → t ≡ true → unmoved s ≡ true → finished b ≡ false
 unfolding validProgress
 progress-facts t b s e on u =
-    either (finished b) (λ d. clash (sym (not-true _ e) ∙ true-all (t ∷ unmoved s ∷ finished b ∷ []) (on, (u, (d, tt))))) (λ d. d)
+    not-true _ (sym (unfinished-below b) ∙ means-so _ _ e (true-all (t ∷ unmoved s ∷ []) (on, (u, tt))))
 
 pub facts-progress : (t : Bool) (b : Block) (s : Slot) → (t ≡ true → unmoved s ≡ true → finished b ≡ false) → validProgress t b s ≡ true
 unfolding validProgress
 facts-progress t b s f =
-    either (every (t ∷ unmoved s ∷ finished b ∷ []))
-    (λ d. let h = all-true _ d in clash (sym (f (h .0) (h .1 .0)) ∙ h .1 .1 .0))
-    (λ d. not-of-false _ d)
+    so-means _ _ (λ e. let h = all-true _ e in unfinished-below b ∙ not-of-false _ (f (h .0) (h .1 .0)))
 
 -- ---- bounds that code relies on
 

@@ -12,7 +12,7 @@ use Rattle.rules.specs.Validity.{total}
 use Rattle.rules.specs.Clock.{Kind, busClock, heldClock, cpuClock}
 use Rattle.rules.specs.Buffers.{Store}
 use Rattle.rules.specs.World.{Move}
-use Rattle.rules.specs.Entries.{Outside, Entry, portWrite, portRead, clockGrant, outsideChange, bytesWritten, Answered, Run, run, systemAtPowerOn}
+use Rattle.rules.specs.Entries.{Outside, Entry, portWrite, portRead, clockGrant, otherGrant, outsideChange, bytesWritten, Answered, Run, run, systemAtPowerOn}
 use Rattle.rules.specs.History.{Event, clockNoted, counterZeroed, History, history, pastAtPowerOn}
 use Rattle.rules.specs.Splitting.{SplitsAt}
 
@@ -64,7 +64,8 @@ zeroedNoted (counterZeroed held ∷ es) = held + zeroedNoted es
 abbrev pub clocksAsked : {M C : Type 0} {σ : Store M} → Entry σ C → ℕ
 clocksAsked (portWrite port byte) = 0
 clocksAsked (portRead port) = 0
-clocksAsked (clockGrant n m l) = n
+clocksAsked (clockGrant n) = n
+clocksAsked (otherGrant n b wrong) = n
 clocksAsked (outsideChange x) = 0
 
 unfoldable pub clocksAccepted : {M C : Type 0} {σ : Store M} → List (Entry σ C) → List Answered → ℕ

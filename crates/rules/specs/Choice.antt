@@ -19,6 +19,10 @@ unfoldable pub any : List Bool → Bool
 any [] = false
 any (t ∷ ts) = pick t true (any ts)
 
+-- where the first test holds, so does the second
+unfoldable pub means : Bool → Bool → Bool
+means s t = pick s t true
+
 -- a reason to refuse a call, and the number that it gives
 pub record Test : Type 0 where
   pub number : ℕ

@@ -14,7 +14,7 @@ use Rattle.rules.specs.Readback.{readByte}
 use Rattle.rules.specs.Buffers.{Store}
 use Rattle.rules.specs.World.{World, Note, step, note}
 use Rattle.rules.specs.Refusals.{accessRefusal, grantRefusal}
-use Rattle.rules.specs.Entries.{Outside, Entry, portWrite, portRead, clockGrant, outsideChange, borrowedBuffers}
+use Rattle.rules.specs.Entries.{Outside, Entry, portWrite, portRead, clockGrant, otherGrant, outsideChange}
 use Rattle.rules.specs.declared.Core.{Core}
 
 -- what the history notes: a clock, or what the counter held when a Load or a Continue put it to zero
@@ -96,9 +96,10 @@ module _ {M C : Type 0} (σ : Store M) (ω : Outside M C) where
       unlessRefused (accessRefusal (p .world .core) (p .sum) port) (writePassed port byte p) p
   noteEntry (portRead port) p =
       unlessRefused (accessRefusal (p .world .core) (p .sum) port) (withCore (readByte (p .world .core) .core) p) p
-  noteEntry (clockGrant n m l) p =
-      unlessRefused
-      (grantRefusal σ (p .world .core) (p .sum) (borrowedBuffers m l (p .world .buffers)) n) (grantPassed σ n p) p
+  noteEntry (clockGrant n) p =
+      unlessRefused (grantRefusal σ (p .world .core) (p .sum) (p .world .buffers) n) (grantPassed σ n p) p
+  noteEntry (otherGrant n b wrong) p =
+      unlessRefused (grantRefusal σ (p .world .core) (p .sum) b n) (grantPassed σ n p) p
   noteEntry (outsideChange x) p = record { number = 0; past = changePassed x p }
 
   -- a list of entries

@@ -10,7 +10,7 @@ use Rattle.rules.specs.Bytes.{AreBytes}
 use Rattle.rules.specs.Validity.{valid, total}
 use Rattle.rules.specs.Buffers.{Store, flat}
 use Rattle.rules.specs.Keeping.{ValidDevice}
-use Rattle.rules.specs.Entries.{Outside, Poke, flatOutside, BorrowedMemory, ownMemory, otherMemory, BorrowedLatches, ownLatches, otherLatches, Entry, portWrite, portRead, clockGrant, outsideChange, bytesWritten, Answered, Run, run, systemAtPowerOn}
+use Rattle.rules.specs.Entries.{Outside, Poke, flatOutside, Entry, portWrite, portRead, clockGrant, otherGrant, outsideChange, bytesWritten, Answered, Run, run, systemAtPowerOn}
 use Rattle.rules.specs.History.{Event, clockNoted, counterZeroed, History, history, pastAtPowerOn}
 use Rattle.rules.specs.Accounts.{heldBefore}
 
@@ -42,26 +42,19 @@ unfoldable pub NoneIs : ℕ → List Answered → Type 0
 NoneIs n [] = Unit {0}
 NoneIs n (a ∷ as′) = (a .number ≡ n → ⊥) × NoneIs n as′
 
--- a grant that lends another memory, and one that lends other latches
-abbrev pub LendsMemory : Entry flat (List Poke) → Type 0
-LendsMemory (portWrite port byte) = ⊥
-LendsMemory (portRead port) = ⊥
-LendsMemory (clockGrant n ownMemory l) = ⊥
-LendsMemory (clockGrant n (otherMemory m wrong) l) = Unit {0}
-LendsMemory (outsideChange x) = ⊥
+-- a grant that lends other buffers
+abbrev pub LendsOther : Entry flat (List Poke) → Type 0
+LendsOther (portWrite port byte) = ⊥
+LendsOther (portRead port) = ⊥
+LendsOther (clockGrant n) = ⊥
+LendsOther (otherGrant n b wrong) = Unit {0}
+LendsOther (outsideChange x) = ⊥
 
-abbrev pub LendsLatches : Entry flat (List Poke) → Type 0
-LendsLatches (portWrite port byte) = ⊥
-LendsLatches (portRead port) = ⊥
-LendsLatches (clockGrant n m ownLatches) = ⊥
-LendsLatches (clockGrant n m (otherLatches l wrong)) = Unit {0}
-LendsLatches (outsideChange x) = ⊥
-
--- 4 is answered only to a grant that lends another memory, and 5 only to one that lends other latches
+-- 4 and 5 are answered only to a grant that lends other buffers
 unfoldable pub OwnServe : List (Entry flat (List Poke)) → List Answered → Type 0
 OwnServe [] as′ = Unit {0}
 OwnServe (e ∷ es) [] = Unit {0}
-OwnServe (e ∷ es) (a ∷ as′) = (a .number ≡ 4 → LendsMemory e) × (a .number ≡ 5 → LendsLatches e) × OwnServe es as′
+OwnServe (e ∷ es) (a ∷ as′) = (a .number ≡ 4 → LendsOther e) × (a .number ≡ 5 → LendsOther e) × OwnServe es as′
 
 -- no entry of a list is answered with 1; from buffers of 65,536 bytes, 4 and 5 are answered to other buffers only
 abbrev pub AnswersReached : Type 0

@@ -19,12 +19,16 @@ wrongPort port = every (not (eqb (port % 256) 0x6B) ∷ not (eqb (port % 256) 0x
 unfoldable pub accessRefusal : Core → ℕ → ℕ → ℕ
 accessRefusal c sum port = firstHit (test 1 (not (valid c sum)) ∷ test 2 (wrongPort port) ∷ test 3 (busHeld c) ∷ [])
 
--- a grant of n clocks; the memory has its own numbers, 4 for the flat one
-unfoldable pub grantRefusal : {M : Type 0} → Store M → Core → ℕ → Buffers M → ℕ → ℕ
-grantRefusal σ c sum b n =
+-- a grant of n clocks, by the number with which the memory is refused, if it is, and the length of the latches
+unfoldable pub lentRefusal : Core → ℕ → ℕ → ℕ → ℕ → ℕ
+lentRefusal c sum memory latches n =
     firstHit
     (test 1 (not (valid c sum))
-    ∷ test (σ .refusal (b .memory)) (not (eqb (σ .refusal (b .memory)) 0))
-    ∷ test 5 (not (eqb (length (b .latches)) 65536))
+    ∷ test memory (not (eqb memory 0))
+    ∷ test 5 (not (eqb latches 65536))
     ∷ test 6 (ltb most64 (sum + n))
     ∷ [])
+
+-- the memory has its own number, 4 for the flat one
+unfoldable pub grantRefusal : {M : Type 0} → Store M → Core → ℕ → Buffers M → ℕ → ℕ
+grantRefusal σ c sum b n = lentRefusal c sum (σ .refusal (b .memory)) (length (b .latches)) n

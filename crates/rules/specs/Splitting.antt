@@ -9,7 +9,7 @@ use Rattle.rules.specs.Facts.{InRange}
 use Rattle.rules.specs.Buffers.{Store}
 use Rattle.rules.specs.World.{System}
 use Rattle.rules.specs.Calls.{grant}
-use Rattle.rules.specs.Entries.{Outside, ownMemory, ownLatches, Entry, clockGrant, bytesWritten, Answered, Run, run, systemAtPowerOn}
+use Rattle.rules.specs.Entries.{Outside, Entry, clockGrant, bytesWritten, Answered, Run, run, systemAtPowerOn}
 use Rattle.rules.specs.History.{Past, history, pastAtPowerOn}
 
 unfoldable pub sumOf : List ℕ → ℕ
@@ -37,7 +37,7 @@ module _ {M : Type 0} (σ : Store M) where
 -- grants of the list's own buffers, and the answers to them where all are accepted
 unfoldable pub grants : {M C : Type 0} {σ : Store M} → List ℕ → List (Entry σ C)
 grants [] = []
-grants (n ∷ ns) = clockGrant n ownMemory ownLatches ∷ grants ns
+grants (n ∷ ns) = clockGrant n ∷ grants ns
 
 unfoldable pub acceptedAnswers : List ℕ → List Answered
 acceptedAnswers [] = []

@@ -4,8 +4,8 @@ use Prim.Native.Nat.{ℕ, _+_, _%_}
 use mathlib.Core.Bool.{Bool, not}
 use mathlib.Core.List.{[], _∷_}
 use lib.Dec.{leb, ltb, eqb}
-use Rattle.rules.specs.Choice.{pick, every, any}
-use Rattle.rules.specs.Blocks.{finished}
+use Rattle.rules.specs.Choice.{pick, every, any, means}
+use Rattle.rules.specs.Blocks.{blockCount}
 use Rattle.rules.specs.Slots.{unmoved}
 use Rattle.rules.specs.Pending.{validPending}
 use Rattle.rules.specs.declared.Port.{Port}
@@ -40,9 +40,9 @@ runningSlot s = every (leb 4 (s .bus) ∷ leb (s .bus) 8 ∷ validLength s ∷ l
 unfoldable pub validSlot : Bool → Slot → Bool
 validSlot enabled s = pick (eqb (s .elapsed) 0) (restingSlot s) (every (enabled ∷ runningSlot s ∷ []))
 
--- enabled with the byte not yet moved means that the counter is below the block count: not at or above it
+-- enabled with the byte not yet moved means that the counter is below the block count
 unfoldable pub validProgress : Bool → Block → Slot → Bool
-validProgress enabled b s = not (every (enabled ∷ unmoved s ∷ finished b ∷ []))
+validProgress enabled b s = means (every (enabled ∷ unmoved s ∷ [])) (ltb (b .counter) (blockCount b))
 
 unfoldable pub validCore : Core → Bool
 validCore c =

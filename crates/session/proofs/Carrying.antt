@@ -6,7 +6,7 @@ use mathlib.Core.List.{List, []}
 use borrow.Author.Tests.{eq-eqb, ne-eqb}
 use Rattle.rules.specs.Buffers.{flat}
 use Rattle.rules.specs.Calls.{Answer, Reply, writeReply, readReply, grant}
-use Rattle.rules.specs.Entries.{Poke, poked, flatOutside, ownMemory, ownLatches, Entry, portWrite, portRead, clockGrant, outsideChange, enter}
+use Rattle.rules.specs.Entries.{Poke, poked, flatOutside, Entry, portWrite, portRead, clockGrant, outsideChange, enter}
 use Rattle.rules.specs.Choice.{pick}
 use Rattle.rules.specs.declared.Clocks.{Clocks}
 use Rattle.rules.specs.declared.Core.{Core}
@@ -33,7 +33,7 @@ module _ (xs : List ℕ) (r : Record) where
   unfolding entryOf pick
   entry-read n e = simp (ne-eqb _ _ n, eq-eqb _ _ e)
 
-  entry-grant : (r .number ≡ 1 → ⊥) → (r .number ≡ 2 → ⊥) → r .number ≡ 3 → clockGrant (r .clocks) ownMemory ownLatches ≡ entryOf xs r
+  entry-grant : (r .number ≡ 1 → ⊥) → (r .number ≡ 2 → ⊥) → r .number ≡ 3 → clockGrant (r .clocks) ≡ entryOf xs r
   unfolding entryOf pick
   entry-grant n o e = simp (ne-eqb _ _ n, ne-eqb _ _ o, eq-eqb _ _ e)
 

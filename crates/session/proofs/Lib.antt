@@ -2,12 +2,3 @@ pub mod Poking
 pub mod Carrying
 pub mod Saying
 pub mod Room
-pub mod Entries
-pub mod Runs
-pub mod Stepping
-pub mod Faults
-pub mod Pieces
-pub mod Moving
-pub mod RoundTrip
-pub mod Served
-pub mod Examples

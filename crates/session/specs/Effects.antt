@@ -8,7 +8,7 @@ use Rattle.rules.specs.Choice.{pick}
 use Rattle.rules.specs.Buffers.{flat}
 use Rattle.rules.specs.World.{System}
 use Rattle.rules.specs.Calls.{Answer}
-use Rattle.rules.specs.Entries.{Poke, flatOutside, ownMemory, ownLatches, Entry, portWrite, portRead, clockGrant, outsideChange, enter}
+use Rattle.rules.specs.Entries.{Poke, flatOutside, Entry, portWrite, portRead, clockGrant, outsideChange, enter}
 use Rattle.zxndma.specs.Answers.{systemOf}
 use Rattle.records.specs.Records.{writeKind, readKind, grantKind, memoryKind}
 use Rattle.records.specs.declared.Record.{Record}
@@ -26,7 +26,7 @@ unfoldable pub entryOf : List ℕ → Record → Entry flat (List Poke)
 entryOf xs r =
     pick (eqb (r .number) writeKind) (portWrite (r .word) (r .byte))
     (pick (eqb (r .number) readKind) (portRead (r .word))
-    (pick (eqb (r .number) grantKind) (clockGrant (r .clocks) ownMemory ownLatches)
+    (pick (eqb (r .number) grantKind) (clockGrant (r .clocks))
     (pick (eqb (r .number) memoryKind) (outsideChange (pokes (r .next - r .start) xs (r .start) (r .word))) (outsideChange []))))
 
 -- a record's effect

@@ -3,16 +3,16 @@
 ghost use mathlib.Core.Path.{_≡_};
 ghost use Prim.Native.Nat.{_*_, _-_, _<_};
 ghost use Rattle.rules.specs.Validity.{total};
-ghost use Rattle.rules.specs.Buffers.{flat};
+ghost use Rattle.rules.specs.Buffers.{lengthRefusal, flat};
 ghost use Rattle.rules.specs.World.{clocked};
-ghost use Rattle.rules.specs.Refusals.{grantRefusal};
+ghost use Rattle.rules.specs.Refusals.{lentRefusal, grantRefusal};
 ghost use Rattle.rules.specs.Calls.{writeReply, readReply, grant};
 ghost use Rattle.rules.specs.Parts.{withSlot};
 ghost use Rattle.rules.specs.Clock.{newSlot, kindAt};
 ghost use Rattle.rules.specs.Spans.{kindCode};
 ghost use Rattle.rules.specs.WholeSlots.{slotsWithin, slotsPassed};
 ghost use Rattle.clocking.specs.Answers.{borrowed, countedWithin};
-ghost use Rattle.zxndma.specs.Grants.{borrowedRefusal, Ready, Passed};
+ghost use Rattle.zxndma.specs.Grants.{Ready, Passed};
 ghost use Rattle.zxndma.specs.Answers.{device, deviceAtPowerOn, writeAnswer, readAnswer, systemOf, grantAnswer};
 use clocking::clock;
 use clocking::count;
@@ -182,7 +182,7 @@ impl Device {
 
     // Why a grant is refused, 0 for accepted. The sum of a valid device's counts is within 64 bits, so that no sum wraps.
     fn grant_number(self, memory: usize, latches: usize, clocks: u32) -> u8
-        ensures { λ r. ⌜ r ≡ borrowedRefusal (self .core) (total (self .clocks)) memory latches clocks ⌝ }
+        ensures { λ r. ⌜ r ≡ lentRefusal (self .core) (total (self .clocks)) (lengthRefusal memory) latches clocks ⌝ }
     {
         let core = self.core;
         let counts = self.clocks;

@@ -1,6 +1,6 @@
 use Rattle.rules.proofs.Calls.{grant-accepts, grant-refuses}
 use Rattle.rules.specs.Buffers.{flat}
-use Rattle.zxndma.proofs.Refusing.{borrowed-refusal}
+use Rattle.rules.specs.Refusals.{grantRefusal}
 use mathlib.Core.Path.{sym, _∙_}
 use borrow.Author.Needs.{needs}
 use Rattle.zxndma.proofs.Device.grant.Statement.{statement}
@@ -10,7 +10,8 @@ grant-number-requires : tie.Need-grant-number-requires
 grant-number-requires c κs = search needs
 
 spend-requires : tie.Need-spend-requires
-spend-requires c κs = borrowed-refusal _ _ _ _ _ ∙ sym (c .before .before .before .grant-number .ensures) ∙ c .before .before .if1 .taken
+unfolding grantRefusal
+spend-requires c κs = sym (c .before .before .before .grant-number .ensures) ∙ c .before .before .if1 .taken
 
 same-length : tie.Need-same-length
 same-length c = search needs
@@ -19,10 +20,12 @@ same-length-2 : tie.Need-same-length-2
 same-length-2 c = search needs
 
 returns : tie.Need-returns
-returns c = grant-accepts flat _ _ _ (borrowed-refusal _ _ _ _ _ ∙ sym (c .before .before .before .before .before .before .before .before .grant-number .ensures) ∙ c .before .before .before .before .before .before .before .if1 .taken) (c .before .before .before .before .spend .ensures)
+unfolding grantRefusal
+returns c = grant-accepts flat _ _ _ (sym (c .before .before .before .before .before .before .before .before .grant-number .ensures) ∙ c .before .before .before .before .before .before .before .if1 .taken) (c .before .before .before .before .spend .ensures)
 
 returns-2 : tie.Need-returns-2
-returns-2 c = grant-refuses flat _ _ _ (borrowed-refusal _ _ _ _ _ ∙ sym (c .before .grant-number .ensures)) (c .if1 .left)
+unfolding grantRefusal
+returns-2 c = grant-refuses flat _ _ _ (sym (c .before .grant-number .ensures)) (c .if1 .left)
 
 pub grant-spec : {M : Type 1} → statement M
 grant-spec =

@@ -12,8 +12,8 @@ use Rattle.rules.specs.World.{System}
 use Rattle.rules.proofs.Choice.{pick-both, pick-cases}
 use Rattle.records.specs.Records.{recordAt}
 use Rattle.records.proofs.Standing.{stands}
 use Rattle.session.specs.Effects.{effect}
-use Rattle.session.specs.Sessions.{Ended, start, recordsFrom, session, FaultNumber, FaultKnown}
+use Rattle.runs.specs.Sessions.{Ended, start, recordsFrom, session, FaultNumber, FaultKnown}
 
 Known : Ended → Type 0
 Known e = FaultNumber (e .fault)

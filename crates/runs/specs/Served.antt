@@ -4,7 +4,7 @@ use Prim.Native.Nat.{ℕ}
 use mathlib.Core.List.{List}
 use Rattle.rules.specs.Bytes.{AreBytes}
 use Rattle.rules.specs.Reached.{NoneIs}
-use Rattle.session.specs.Sessions.{runOf}
+use Rattle.runs.specs.Sessions.{runOf}
 
 -- of a session's calls: none is refused for the device, none for the memory, none for the latches
 pub record Served (xs : List ℕ) : Type 0 where

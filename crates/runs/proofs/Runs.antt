@@ -17,10 +17,10 @@ use Rattle.rules.proofs.Reached.{every-reached}
 use Rattle.records.specs.Records.{recordAt}
 use Rattle.records.proofs.Choosing.{both}
 use Rattle.lines.specs.Lines.{recordLine, countsLine, faultLine}
 use Rattle.session.specs.Effects.{effect}
-use Rattle.session.specs.Sessions.{Ended, endedBy, lineBefore, recordsFrom, session, decodedFrom, decoded, entriesOf, linesOf, lastLine, start, SessionRuns}
+use Rattle.runs.specs.Sessions.{Ended, endedBy, lineBefore, recordsFrom, session, decodedFrom, decoded, entriesOf, linesOf, lastLine, start, SessionRuns}
 use Rattle.records.specs.declared.Record.{Record}
-use Rattle.session.proofs.Entries.{session-writes}
+use Rattle.runs.proofs.Entries.{session-writes}
 
 -- of bytes xs: what is ended from a system on, with the records decoded, is their run
 record Agrees (xs : List ℕ) (s : System (List ℕ)) (e : Ended) (rs : List Record) : Type 0 where

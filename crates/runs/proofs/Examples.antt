@@ -4,9 +4,9 @@ use mathlib.Core.Path.{refl}
 use Rattle.rules.specs.Opened.{opened}
 use Rattle.records.specs.Records.{word, quad, short, behind, writeRecord, readRecord, grantRecord, memoryRecord, ofKind, recordAt}
 use Rattle.lines.specs.Lines.{decimalTo, hexDigit, readLine, recordLine}
 use Rattle.session.specs.Effects.{pokes, entryOf}
-use Rattle.session.specs.Sessions.{recordsFrom, session}
-use Rattle.session.specs.Examples.{asciiFrom, writes, seen, must, ExamplesHold}
+use Rattle.runs.specs.Sessions.{recordsFrom, session}
+use Rattle.runs.specs.Examples.{asciiFrom, writes, seen, must, ExamplesHold}
 
 pub examples-hold : ExamplesHold
 unfolding opened word quad short behind writeRecord readRecord grantRecord memoryRecord ofKind recordAt decimalTo hexDigit readLine recordLine pokes entryOf recordsFrom session asciiFrom writes seen must

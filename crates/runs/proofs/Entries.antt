@@ -7,17 +7,17 @@ use lib.Dec.{eqb, leb}
 use lib.ListN.{length, getD}
 use Rattle.rules.specs.Bytes.{AreBytes}
 use Rattle.rules.specs.Buffers.{flat}
-use Rattle.rules.specs.Entries.{Poke, ownMemory, ownLatches, Entry, portWrite, portRead, clockGrant, outsideChange, bytesWritten}
+use Rattle.rules.specs.Entries.{Poke, Entry, portWrite, portRead, clockGrant, outsideChange, bytesWritten}
 use Rattle.rules.proofs.Choice.{pick-both}
 use Rattle.records.specs.Records.{recordAt}
 use Rattle.records.specs.declared.Record.{Record}
 use Rattle.records.proofs.Standing.{small-byte}
 use Rattle.session.specs.Effects.{entryOf}
-use Rattle.session.specs.Sessions.{decodedFrom, decoded, entriesOf}
+use Rattle.runs.specs.Sessions.{decodedFrom, decoded, entriesOf}
 
 module _ (xs : List ℕ) where
   -- what holds of the four kinds of entries that a session makes holds of a record's entry
-  pub each-kind : (P : Entry flat (List Poke) → Type 0) (r : Record) → P (portWrite (r .word) (r .byte)) → P (portRead (r .word)) → P (clockGrant (r .clocks) ownMemory ownLatches) → ((ps : List Poke) → P (outsideChange ps)) → P (entryOf xs r)
+  pub each-kind : (P : Entry flat (List Poke) → Type 0) (r : Record) → P (portWrite (r .word) (r .byte)) → P (portRead (r .word)) → P (clockGrant (r .clocks)) → ((ps : List Poke) → P (outsideChange ps)) → P (entryOf xs r)
   unfolding entryOf
   each-kind P r w d g m = pick-both P _ _ _ w (pick-both P _ _ _ d (pick-both P _ _ _ g (pick-both P _ _ _ (m _) (m _))))
 

@@ -7,7 +7,7 @@ use Prim.Native.String.{String, len, charAt}
 use mathlib.Core.Path.{_≡_}
 use mathlib.Core.List.{List, [], _∷_, _++_}
 use lib.ListN.{getD, replicate}
-use Rattle.session.specs.Sessions.{session}
+use Rattle.runs.specs.Sessions.{session}
 
 -- a text of ASCII as bytes
 unfoldable pub asciiFrom : ℕ → ℕ → String → List ℕ

@@ -18,9 +18,9 @@ use Rattle.zxndma.specs.Answers.{deviceAtPowerOn}
 use Rattle.zxndma.specs.declared.Device.{Device}
 use Rattle.records.specs.Records.{none, recordAt, longLength}
 use Rattle.lines.specs.Lines.{recordLine, countsLine, faultLine}
 use Rattle.session.specs.Effects.{effect}
 use Rattle.session.specs.Steps.{Said, Outcome, inPhase, sessionAtStart, deviceOf, systemWith, carried, lastCounts, lastFault, withoutLine, buffersKept, versionStep, longStep, byRecord, recordStep, stepOf}
-use Rattle.session.specs.Sessions.{Ended, endedBy, lineBefore, recordsFrom, session, start, lineIn, systemIn, stepsFrom, StepsRead, AllRead}
+use Rattle.runs.specs.Sessions.{Ended, endedBy, lineBefore, recordsFrom, session, start, lineIn, systemIn, stepsFrom, StepsRead, AllRead}
 use Rattle.records.specs.declared.Record.{Record}
 use Rattle.records.proofs.Choosing.{both}
 use Rattle.records.proofs.Standing.{Stands, stands, at-end, short-end, long, record-whole, record-cut}

@@ -23,10 +23,10 @@ use Rattle.records.proofs.Bytes.{bytes-join, bytes-drop}
 use Rattle.records.proofs.Standing.{stands, at-end}
 use Rattle.records.proofs.Moving.{moved, record-moves}
 use Rattle.records.proofs.Encoding.{found, reads-back, is-found, are-bytes, comes}
 use Rattle.session.specs.Effects.{pokes, entryOf, effect}
-use Rattle.session.specs.Sessions.{Ended, start, recordsFrom, session, decodedFrom, decoded, entriesOf}
-use Rattle.session.specs.RoundTrip.{AllInRange, recordsBytes, sessionBytes, bytesFrom, entryFor, entriesFor, EncodedReadsBack, FaultlessIsEncoded}
-use Rattle.session.proofs.Moving.{pokes-move, entry-moves}
+use Rattle.runs.specs.Sessions.{Ended, start, recordsFrom, session, decodedFrom, decoded, entriesOf}
+use Rattle.runs.specs.RoundTrip.{AllInRange, recordsBytes, sessionBytes, bytesFrom, entryFor, entriesFor, EncodedReadsBack, FaultlessIsEncoded}
+use Rattle.runs.proofs.Moving.{pokes-move, entry-moves}
 
 -- ---- the entry of a record
 

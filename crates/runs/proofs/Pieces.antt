@@ -13,11 +13,11 @@ use Rattle.rules.specs.Buffers.{Buffers, flat}
 use Rattle.rules.specs.Entries.{Poke, flatOutside, Entry, outsideChange, enter}
 use Rattle.rules.proofs.Choice.{pick-true, pick-false, pick-both, pick-cases, either}
 use Rattle.records.specs.Records.{none, word, ofKind, recordAt, longLength}
 use Rattle.session.specs.Effects.{pokes, entryOf}
 use Rattle.session.specs.Steps.{Said, Outcome, inPhase, withoutLine, buffersKept, lastFault, lastCounts, carried, systemWith, versionStep, longStep, byRecord, recordStep, stepOf}
-use Rattle.session.specs.Pieces.{next, StepStands}
+use Rattle.runs.specs.Pieces.{next, StepStands}
 use Rattle.records.specs.declared.Record.{Record}
 use Rattle.session.specs.declared.step.Session.{Session}
 use Rattle.records.proofs.Choosing.{same}
 use Rattle.records.proofs.Standing.{stands-kind, long-there}
 use Rattle.records.proofs.Pieces.{longer, byte-stays, waits-behind, waits-length, waits-bytes, whole, record-is, record-stays, long-stays, Within, within}

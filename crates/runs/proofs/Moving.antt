@@ -12,12 +12,12 @@ use Rattle.rules.specs.Buffers.{Buffers, flat}
 use Rattle.rules.specs.Entries.{Poke, flatOutside, Entry, outsideChange, enter}
 use Rattle.rules.proofs.Choice.{pick-true, pick-ap, either}
 use Rattle.records.specs.Records.{word, recordAt, longLength}
 use Rattle.session.specs.Effects.{pokes, entryOf}
 use Rattle.session.specs.Steps.{Said, Outcome, inPhase, withoutLine, buffersKept, lastFault, carried, systemWith, versionStep, longStep, byRecord, recordStep, stepOf}
-use Rattle.session.specs.Pieces.{farther, StepMoves}
+use Rattle.runs.specs.Pieces.{farther, StepMoves}
 use Rattle.records.specs.declared.Record.{Record}
 use Rattle.session.specs.declared.step.Session.{Session}
-use Rattle.session.proofs.Pieces.{without-room, at-version, at-record, at-long, at-over}
+use Rattle.runs.proofs.Pieces.{without-room, at-version, at-record, at-long, at-over}
 use Rattle.records.proofs.Choosing.{same, lift}
 use Rattle.records.proofs.Moving.{byte-moves, moved, test-here, record-moves, long-moves}
 

@@ -6,10 +6,10 @@ use mathlib.Core.Path.{_≡_}
 use mathlib.Core.List.{List, [], _∷_, _++_}
 use Rattle.rules.specs.Bytes.{AreBytes}
 use Rattle.rules.specs.Buffers.{flat}
-use Rattle.rules.specs.Entries.{Poke, ownMemory, ownLatches, Entry, portWrite, portRead, clockGrant, outsideChange}
+use Rattle.rules.specs.Entries.{Poke, Entry, portWrite, portRead, clockGrant, outsideChange}
 use Rattle.records.specs.Records.{version}
 use Rattle.records.specs.Encoding.{SessionRecord, toWrite, toRead, toGrant, toMemory, InRange, recordBytes}
-use Rattle.session.specs.Sessions.{session, decoded, entriesOf}
+use Rattle.runs.specs.Sessions.{session, decoded, entriesOf}
 
 -- every record of the list is in range
 unfoldable pub AllInRange : List SessionRecord → Type 0
@@ -34,7 +34,7 @@ bytesFrom address (byte ∷ bytes) = record { address = address; byte = byte } �
 unfoldable pub entryFor : SessionRecord → Entry flat (List Poke)
 entryFor (toWrite port byte) = portWrite port byte
 entryFor (toRead port) = portRead port
-entryFor (toGrant clocks) = clockGrant clocks ownMemory ownLatches
+entryFor (toGrant clocks) = clockGrant clocks
 entryFor (toMemory address bytes) = outsideChange (bytesFrom address bytes)
 
 unfoldable pub entriesFor : List SessionRecord → List (Entry flat (List Poke))

@@ -1,0 +1,9 @@
+pub mod Entries
+pub mod Runs
+pub mod Stepping
+pub mod Faults
+pub mod Pieces
+pub mod Moving
+pub mod RoundTrip
+pub mod Served
+pub mod Examples

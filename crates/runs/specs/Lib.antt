@@ -1,0 +1,6 @@
+-- Whole sessions, each file after those that it uses.
+pub mod Sessions
+pub mod Pieces
+pub mod RoundTrip
+pub mod Served
+pub mod Examples
