@@ -15,9 +15,9 @@ use Rattle.rules.specs.Calls.{Answer}
 use Rattle.rules.specs.Entries.{Poke, flatOutside, Entry, Answered, Run, run, systemAtPowerOn}
 use Rattle.rules.specs.Accounts.{Accounted}
 use Rattle.records.specs.Records.{version, noVersion, inputEnds, recordAt}
-use Rattle.lines.specs.Lines.{recordLine, countsLine, faultLine}
+use Rattle.lines.specs.Lines.{recordLine, countsLine, faultLine, room}
 use Rattle.session.specs.Effects.{entryOf, effect}
-use Rattle.session.specs.Steps.{isOver, room, Outcome, sessionAtStart, systemWith, stepOf}
+use Rattle.session.specs.Steps.{isOver, Outcome, sessionAtStart, systemWith, stepOf}
 use Rattle.records.specs.declared.Record.{Record}
 use Rattle.session.specs.declared.step.Session.{Session}
 
