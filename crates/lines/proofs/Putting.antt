@@ -11,7 +11,7 @@ use lib.ListN.{length, take, set, length-set, length-append}
 use lib.Seq.{take-suc-set}
 use Rattle.rules.specs.Buffers.{placed}
 use Rattle.rules.proofs.Choice.{pick-true, pick-false, pick-both}
-use Rattle.lines.specs.Lines.{decimalTo, Put}
+use Rattle.lines.specs.Lines.{decimalTo, Put, PutLine}
 
 placed-append : (at : ℕ) (xs ys l : List ℕ) → placed (at + length xs) ys (placed at xs l) ≡ placed at (xs ++ ys) l
 unfolding placed
@@ -42,6 +42,14 @@ put-one l at x = record { list = refl; place = refl; size = length-set l at x }
 -- the same bytes by another name
 pub put-as : {l l′ : List ℕ} {at q : ℕ} {xs ys : List ℕ} → xs ≡ ys → Put l at xs l′ q → Put l at ys l′ q
 put-as {l} {l′} {at} {q} e p = record { list = p .list ∙ ap (λ zs. placed at zs l) e; place = p .place ∙ ap (λ (zs : List ℕ). at + length zs) e; size = p .size }
+
+-- ---- a line, where there is room and where there is none
+
+pub line-put : {l bytes after : List ℕ} {next : ℕ} → 72 ≤ length l → Put l 0 bytes after next → PutLine l bytes after next
+line-put h p = record { put = λ g. p; short = λ g. absurd (omega arith); size = p .size }
+
+pub line-short : (l bytes : List ℕ) → length l < 72 → PutLine l bytes l 0
+line-short l bytes h = record { put = λ g. absurd (omega arith); short = λ g. (refl, refl); size = refl }
 
 -- ---- the line that was put is the line that is taken
 

@@ -1,6 +1,6 @@
 -- The lines that a session writes, as ASCII bytes. Every line ends with one line feed.
 -- Assumes nothing.
-use Prim.Native.Nat.{ℕ, zero, suc, _+_, _/_, _%_}
+use Prim.Native.Nat.{ℕ, zero, suc, _+_, _/_, _%_, _≤_, _<_}
 use mathlib.Core.Path.{_≡_}
 use mathlib.Core.List.{List, [], _∷_, _++_}
 use lib.Dec.{eqb, ltb}
@@ -54,4 +54,15 @@ faultLine number = numberLine 83 number
 pub record Put (l : List ℕ) (at : ℕ) (bytes after : List ℕ) (next : ℕ) : Type 0 where
   pub list : after ≡ placed at bytes l
   pub place : next ≡ at + length bytes
+  pub size : length after ≡ length l
+
+-- the bytes that a list must have for a line; the longest, of three counts with 20 digits each, has 65
+abbrev pub room : ℕ
+room = 72
+
+-- a line was put at the front of a list with room for one, and the answer is its length; a shorter list stays as it was, and
+-- the answer is 0
+pub record PutLine (l bytes after : List ℕ) (next : ℕ) : Type 0 where
+  pub put : room ≤ length l → Put l 0 bytes after next
+  pub short : length l < room → (after ≡ l) × (next ≡ 0)
   pub size : length after ≡ length l

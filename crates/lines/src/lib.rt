@@ -1,10 +1,10 @@
-// The lines that a session writes. Each `put_` function puts its bytes at the front of a borrowed slice, or from a place
-// on, and answers the place behind them.
+// The lines that a session writes. Each function puts its bytes at the front of a borrowed slice, or from a place on, and
+// answers the place behind them.
 ghost use mathlib.Core.Path.{_≡_};
 ghost use mathlib.Core.List.{[], _∷_};
 ghost use Prim.Native.Nat.{_+_, _≤_, _<_};
 ghost use lib.ListN.{length};
-ghost use Rattle.lines.specs.Lines.{decimalTo, hexDigit, numberLine, readLine, recordLine, countsLine, faultLine, Put};
+ghost use Rattle.lines.specs.Lines.{decimalTo, hexDigit, numberLine, readLine, recordLine, countsLine, faultLine, Put, PutLine};
 use rules::Clocks;
 
 // The room that a caller lends for a line. The longest, of three counts with 20 digits each, has 65 bytes.
@@ -113,8 +113,8 @@ fn put_read_line(number: u8, byte: u8, line: &mut [u8]) -> usize
     put_number_line(READ, number, line)
 }
 
-// The line of a record of this kind, answered with this number and, for a port read, this byte.
-pub fn put_record_line(kind: u8, number: u8, byte: u8, line: &mut [u8]) -> usize
+// The line of a record, by its kind.
+fn record_line(kind: u8, number: u8, byte: u8, line: &mut [u8]) -> usize
     requires { ⌜ 72 ≤ length (now line) ⌝ }
     ensures { λ r. ⌜ Put (now (line .entry)) 0 (recordLine kind number byte) (now (line .exit)) r ⌝ }
 {
@@ -130,8 +130,8 @@ pub fn put_record_line(kind: u8, number: u8, byte: u8, line: &mut [u8]) -> usize
     put_number_line(MEMORY, number, line)
 }
 
-// The last line of a session without a fault.
-pub fn put_counts_line(clocks: Clocks, line: &mut [u8]) -> usize
+// A letter and the three counts.
+fn counts_line(clocks: Clocks, line: &mut [u8]) -> usize
     requires { ⌜ 72 ≤ length (now line) ⌝ }
     ensures { λ r. ⌜ Put (now (line .entry)) 0 (countsLine clocks) (now (line .exit)) r ⌝ }
 {
@@ -145,10 +145,33 @@ pub fn put_counts_line(clocks: Clocks, line: &mut [u8]) -> usize
     put_byte(LINE_FEED, line, at)
 }
 
-// The last line of a session with a fault.
-pub fn put_fault_line(number: u8, line: &mut [u8]) -> usize
-    requires { ⌜ 72 ≤ length (now line) ⌝ }
-    ensures { λ r. ⌜ Put (now (line .entry)) 0 (faultLine number) (now (line .exit)) r ⌝ }
+// The line of a record of this kind, answered with this number and, for a port read, this byte, at the front of `line`. The
+// answer is its length, 0 where there is no room for a line.
+pub fn put_record_line(kind: u8, number: u8, byte: u8, line: &mut [u8]) -> usize
+    ensures { λ r. ⌜ PutLine (now (line .entry)) (recordLine kind number byte) (now (line .exit)) r ⌝ }
 {
+    if line.len() < ROOM {
+        return 0;
+    }
+    record_line(kind, number, byte, line)
+}
+
+// The last line of a session without a fault, put in the same way.
+pub fn put_counts_line(clocks: Clocks, line: &mut [u8]) -> usize
+    ensures { λ r. ⌜ PutLine (now (line .entry)) (countsLine clocks) (now (line .exit)) r ⌝ }
+{
+    if line.len() < ROOM {
+        return 0;
+    }
+    counts_line(clocks, line)
+}
+
+// The last line of a session with a fault, put in the same way.
+pub fn put_fault_line(number: u8, line: &mut [u8]) -> usize
+    ensures { λ r. ⌜ PutLine (now (line .entry)) (faultLine number) (now (line .exit)) r ⌝ }
+{
+    if line.len() < ROOM {
+        return 0;
+    }
     put_number_line(FAULT, number, line)
 }

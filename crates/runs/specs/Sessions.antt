@@ -19,9 +19,9 @@ use Rattle.rules.specs.Splitting.{SplitsAt}
 use Rattle.rules.specs.Accounts.{Accounted}
 use Rattle.rules.specs.Reached.{Reached}
 use Rattle.records.specs.Records.{version, noVersion, inputEnds, recordAt}
-use Rattle.lines.specs.Lines.{recordLine, countsLine, faultLine}
+use Rattle.lines.specs.Lines.{recordLine, countsLine, faultLine, room}
 use Rattle.session.specs.Effects.{entryOf, effect}
-use Rattle.session.specs.Steps.{isOver, room, Outcome, sessionAtStart, systemWith, stepOf}
+use Rattle.session.specs.Steps.{isOver, Outcome, sessionAtStart, systemWith, stepOf}
 use Rattle.records.specs.declared.Record.{Record}
 use Rattle.session.specs.declared.step.Session.{Session}
 

@@ -14,7 +14,7 @@ use Rattle.rules.specs.Calls.{Answer}
 use Rattle.zxndma.specs.Answers.{deviceAtPowerOn, systemOf}
 use Rattle.zxndma.specs.declared.Device.{Device}
 use Rattle.records.specs.Records.{version, noVersion, moreNeeded, inputEnds, cutShort, wrongRecord, recordAt, longLength}
-use Rattle.lines.specs.Lines.{recordLine, countsLine, faultLine}
+use Rattle.lines.specs.Lines.{recordLine, countsLine, faultLine, room}
 use Rattle.session.specs.Effects.{effect}
 use Rattle.records.specs.declared.Record.{Record}
 use Rattle.session.specs.declared.step.Session.{Session}
@@ -64,10 +64,6 @@ isOver = 2
 
 abbrev pub noRoom : ℕ
 noRoom = 9
-
--- the bytes that the slice for a line must have
-abbrev pub room : ℕ
-room = 72
 
 -- no line: the number, the next place, the session
 abbrev pub stepWithoutLine : ℕ → ℕ → Session → Step

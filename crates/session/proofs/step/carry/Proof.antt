@@ -24,7 +24,12 @@ same-length-3 : tie.Need-same-length-3
 same-length-3 c = search needs
 
 returns : tie.Need-returns
-returns c = carried-put (c .before .before .before .before .before .before .before .before .before .before .before .before .before .before .before .before .before .args .found) (c .before .before .before .before .before .before .before .before .before .before .carry-out .result) (c .before .before .before .before .before .before .before .before .before .before .carry-out .ensures) (c .before .before .before .before .put-record-line .ensures) (c .in-phase .ensures)
+returns c =
+    let put = c .before .before .before .before in
+    let done = put .before .before .before .before .before .before in
+    let start = done .before .before .before .before .before .before .before in
+    carried-put (start .args .found) (done .carry-out .result) (done .carry-out .ensures) (start .pre) (put .put-record-line .ensures)
+    (c .in-phase .ensures)
 
 pub carry-spec : {M : Type 1} → statement M
 carry-spec =

@@ -15,7 +15,7 @@ same-length : tie.Need-same-length
 same-length c = search needs
 
 returns : tie.Need-returns
-returns c = spoken-put _ _ _ (c .before .before .before .put-counts-line .ensures) (c .in-phase .ensures)
+returns c = spoken-put _ _ _ (search needs) (c .before .before .before .put-counts-line .ensures) (c .in-phase .ensures)
 
 pub say-counts-spec : {M : Type 1} → statement M
 say-counts-spec =

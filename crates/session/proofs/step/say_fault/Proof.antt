@@ -15,7 +15,7 @@ same-length : tie.Need-same-length
 same-length c = search needs
 
 returns : tie.Need-returns
-returns c = spoken-put _ _ _ (c .before .before .before .put-fault-line .ensures) (c .in-phase .ensures)
+returns c = spoken-put _ _ _ (search needs) (c .before .before .before .put-fault-line .ensures) (c .in-phase .ensures)
 
 pub say-fault-spec : {M : Type 1} → statement M
 say-fault-spec = tie.close (tie.spec put-fault-line-requires in-phase-requires same-length returns)

@@ -1,0 +1,21 @@
+-- By the room: nothing, or the line.
+-- Assumes nothing.
+use Rattle.lines.proofs.Putting.{line-put, line-short}
+use borrow.Author.Needs.{needs}
+use Rattle.lines.proofs.put_fault_line.Statement.{statement}
+use Rattle.lines.proofs.put_fault_line.Tie as tie
+
+returns : tie.Need-returns
+returns c = line-short _ _ (search needs)
+
+put-number-line-requires : tie.Need-put-number-line-requires
+put-number-line-requires c κs = search needs
+
+same-length : tie.Need-same-length
+same-length c = search needs
+
+returns-2 : tie.Need-returns-2
+returns-2 c = line-put (search needs) (c .before .before .put-number-line .ensures)
+
+pub put-fault-line-spec : {M : Type 1} → statement M
+put-fault-line-spec = tie.close (tie.spec returns put-number-line-requires same-length returns-2)
