@@ -1,0 +1,4 @@
+pub mod Keeping
+pub mod Taking
+pub mod Working
+pub mod Turning

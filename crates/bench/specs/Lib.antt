@@ -1,0 +1,3 @@
+pub mod Buffered
+pub mod Working
+pub mod Turning
