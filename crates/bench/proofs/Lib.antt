@@ -2,3 +2,4 @@ pub mod Keeping
 pub mod Taking
 pub mod Working
 pub mod Turning
+pub mod Pieces
