@@ -1,7 +1,13 @@
 // The bench program: a session from standard input, its lines to standard output. All it knows of sessions is the library's
 // step; it holds the memory and the latches, reads and writes.
-ghost use Prim.Native.Nat.{_+_, _≤_};
+ghost use Prim.Native.Nat.{_+_, _-_, _≤_};
+ghost use mathlib.Core.Path.{_≡_};
 ghost use lib.ListN.{length};
+ghost use Rattle.clocking.specs.Answers.{borrowed};
+ghost use Rattle.session.specs.Steps.{outcome};
+ghost use Rattle.bench.specs.Buffered.{atHand, kept};
+ghost use Rattle.bench.specs.Working.{stepBehind, gatheredIn, left, leftBy};
+ghost use Rattle.bench.specs.Turning.{AreLines, Refilled, Turned, Ran};
 use libc::STDIN_FILENO;
 use libc::STDOUT_FILENO;
 use session::step;
@@ -28,9 +34,10 @@ struct Worked {
     number: u8,
 }
 
-// Writes the lines that have gathered, and answers whether it could.
-fn flush(output: &[u8], filled: usize) -> bool
-    requires { ⌜ filled ≤ length (now output) ⌝ }
+// Writes the lines that have gathered, and answers whether it could. Where the program was and what was at hand say in the
+// contract whose lines they are.
+fn flush(state: State, input: &[u8], output: &[u8], filled: usize) -> bool
+    requires { ⌜ AreLines state (now input) (now output) filled ⌝ }
 {
     let is_written = io::write_all(STDOUT_FILENO, &output[0..filled]);
     if !is_written {
@@ -42,16 +49,16 @@ fn flush(output: &[u8], filled: usize) -> bool
 // Moves the bytes from `at` up to `have` to the front of the buffer, and answers how many there are.
 fn keep(input: &mut [u8], at: usize, have: usize) -> usize
     requires { ⌜ have ≤ length (now input) ⌝ }
-    ensures { λ r. ⌜ r ≤ length (now (input .entry)) ⌝ }
+    ensures { λ r. ⌜ (r ≡ have - at) × (now (input .exit) ≡ kept at have (now (input .entry))) ⌝ }
 {
-    let mut kept = 0;
+    let mut count = 0;
     let mut from = at;
     while from < have {
-        input[kept] = input[from];
-        kept += 1;
+        input[count] = input[from];
+        count += 1;
         from += 1;
     }
-    kept
+    count
 }
 
 // One step; its line goes behind those that have gathered.
@@ -67,7 +74,7 @@ fn one_step(
     latches: &mut [u8],
 ) -> Step
     requires { ⌜ (have ≤ length (now input)) × (filled ≤ length (now output)) ⌝ }
-    ensures { λ r. ⌜ filled + r .length ≤ length (now (output .entry)) ⌝ }
+    ensures { λ r. ⌜ (outcome r (now (output .exit)) (now (memory .exit)) (now (latches .exit)) ≡ stepBehind filled session (atHand have (now (input .entry))) at ended (now (output .entry)) (borrowed (now (memory .entry)) (now (latches .entry)))) × (filled + r .length ≤ length (now (output .entry))) ⌝ }
 {
     session.step(
         &input[0..have],
@@ -79,8 +86,7 @@ fn one_step(
     )
 }
 
-// Steps through the bytes at hand until more are needed, the output buffer is full or the session is over. A proved loop has
-// to end, so it counts its turns down from a number that no run uses up.
+// Steps through the bytes at hand until more are needed, the output buffer is full or the session is over.
 fn work(
     state: State,
     input: &[u8],
@@ -89,7 +95,7 @@ fn work(
     latches: &mut [u8],
 ) -> Worked
     requires { ⌜ state .have ≤ length (now input) ⌝ }
-    ensures { λ r. ⌜ r .filled ≤ length (now (output .entry)) ⌝ }
+    ensures { λ r. ⌜ left r (now (output .exit)) (now (memory .exit)) (now (latches .exit)) ≡ leftBy (gatheredIn state (now (input .entry)) (now (output .entry)) (borrowed (now (memory .entry)) (now (latches .entry)))) ⌝ }
 {
     let have = state.have;
     let ended = state.ended;
@@ -97,8 +103,7 @@ fn work(
     let mut at = state.at;
     let mut filled = 0;
     let mut number = step::GOES_ON;
-    let mut turns = u64::MAX;
-    while 0 < turns && number == step::GOES_ON {
+    while number == step::GOES_ON {
         let done = one_step(
             session,
             input,
@@ -114,7 +119,6 @@ fn work(
         at = done.next;
         filled += done.length;
         number = done.number;
-        turns -= 1;
     }
     Worked {
         session,
@@ -127,7 +131,7 @@ fn work(
 // Reads more bytes behind those that are not done yet. No byte means that the input has ended.
 fn refill(state: State, input: &mut [u8]) -> State
     requires { ⌜ state .have ≤ length (now input) ⌝ }
-    ensures { λ r. ⌜ r .have ≤ length (now (input .entry)) ⌝ }
+    ensures { λ r. ⌜ Refilled state (now (input .entry)) r (now (input .exit)) ⌝ }
 {
     let kept = keep(input, state.at, state.have);
     let got = libc::read(STDIN_FILENO, &mut input[kept..]);
@@ -140,7 +144,7 @@ fn refill(state: State, input: &mut [u8]) -> State
         next.stopped = true;
         return next;
     }
-    if got == 0 {
+    if more == 0 {
         next.ended = true;
         return next;
     }
@@ -156,10 +160,10 @@ fn turn(
     latches: &mut [u8],
 ) -> State
     requires { ⌜ state .have ≤ length (now input) ⌝ }
-    ensures { λ r. ⌜ r .have ≤ length (now (input .entry)) ⌝ }
+    ensures { λ r. ⌜ Turned state (gatheredIn state (now (input .entry)) (now (output .entry)) (borrowed (now (memory .entry)) (now (latches .entry)))) (now (input .entry)) r (now (input .exit)) (now (output .exit)) (borrowed (now (memory .exit)) (now (latches .exit))) ⌝ }
 {
     let worked = work(state, input, output, memory, latches);
-    let is_written = flush(output, worked.filled);
+    let is_written = flush(state, input, output, worked.filled);
     let session = worked.session;
     let mut next = state;
     next.session = session;
@@ -178,8 +182,11 @@ fn turn(
     next
 }
 
-// A session from its first byte to its last line.
-fn run(memory: &mut [u8], latches: &mut [u8]) {
+// A session from its first byte to its last line. Nothing says that the input ends, and a proved loop has to, so the turns are
+// counted down from a number that no run uses up.
+fn run(memory: &mut [u8], latches: &mut [u8])
+    ensures { λ _. ⌜ Ran (borrowed (now (memory .entry)) (now (latches .entry))) (borrowed (now (memory .exit)) (now (latches .exit))) ⌝ }
+{
     let mut input = [0u8; 65536];
     let mut output = [0u8; 65536];
     let bytes: &mut [u8] = &mut input;

@@ -1,21 +1,20 @@
--- What is kept lies before what it is taken from.
+-- Each byte not taken is copied to the front before it is written over.
 -- Assumes nothing.
-use Rattle.rules.specs.Choice.{pick}
-use borrow.Author.Needs.{needs}
 use Prim.Native.Nat.{_≤_, _-_}
-use mathlib.Core.Path.{_≡_}
+use borrow.Author.Needs.{needs}
 use lib.ListN.{length}
+use Rattle.bench.proofs.Keeping.{Keeping, keeping-start, keeping-more, keeping-end}
 use Rattle.bench.proofs.keep.Statement.{statement}
 use Rattle.bench.proofs.keep.Tie as tie
 
 abbrev Inv-loop : tie.InvT-loop
-Inv-loop input₀ at have kept₀ from₀ input kept from = (kept ≤ from) × (kept ≤ have) × (length input ≡ length input₀)
+Inv-loop input₀ at have count₀ from₀ input count from = (have ≤ length input₀) × Keeping input₀ at have input count from
 
 abbrev μ-loop : tie.MeasureT-loop
-μ-loop input₀ at have kept₀ from₀ input kept from = have - from
+μ-loop input₀ at have count₀ from₀ input count from = have - from
 
 loop-holds : tie.Need-loop-holds Inv-loop μ-loop
-loop-holds c = search needs
+loop-holds c = (c .pre, keeping-start (c .args .input .now) (c .args .at) (c .args .have))
 
 slice-read-input : tie.Need-slice-read-input Inv-loop μ-loop
 slice-read-input c = search needs
@@ -23,8 +22,8 @@ slice-read-input c = search needs
 slice-write-input : tie.Need-slice-write-input Inv-loop μ-loop
 slice-write-input c = search needs
 
-add-kept : tie.Need-add-kept Inv-loop μ-loop
-add-kept c = search needs
+add-count : tie.Need-add-count Inv-loop μ-loop
+add-count c = search needs
 
 add-from : tie.Need-add-from Inv-loop μ-loop
 add-from c = search needs
@@ -33,14 +32,19 @@ loop-less : tie.Need-loop-less Inv-loop μ-loop
 loop-less c = search needs
 
 loop-again : tie.Need-loop-again Inv-loop μ-loop
-loop-again c = search needs
+loop-again c = let
+    inv = c .before .before .loop .inv
+    in
+    (inv .0, keeping-more (inv .1) (inv .0) (c .before .loop-test .taken))
 
 same-length : tie.Need-same-length Inv-loop μ-loop
 same-length c = search needs
 
 returns : tie.Need-returns Inv-loop μ-loop
-unfolding pick
-returns c = search needs
+returns c = let
+    inv = c .before .loop .inv
+    in
+    keeping-end (inv .1) (inv .0) (c .loop-test .left)
 
 pub keep-spec : {M : Type 1} → statement M
 keep-spec =
@@ -51,7 +55,7 @@ keep-spec =
     loop-holds
     slice-read-input
     slice-write-input
-    add-kept
+    add-count
     add-from
     loop-less
     loop-again

@@ -1,3 +1,5 @@
+-- Both buffers go to the run whole.
+-- Assumes nothing.
 use Rattle.rules.specs.Choice.{pick}
 use borrow.Author.Needs.{needs}
 use Rattle.bench.proofs.main.Statement.{statement}

@@ -1,0 +1,5 @@
+pub mod Keeping
+pub mod Taking
+pub mod Working
+pub mod Turning
+pub mod Pieces

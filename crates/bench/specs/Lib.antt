@@ -1,0 +1,4 @@
+pub mod Buffered
+pub mod Working
+pub mod Turning
+pub mod Pieces
