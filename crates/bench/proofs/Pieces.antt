@@ -13,11 +13,11 @@ use Rattle.rules.specs.Choice.{pick}
 use Rattle.rules.specs.Buffers.{Buffers}
 use Rattle.rules.proofs.Choice.{pick-both, pick-ap, pick-cases, pick-true}
 use Rattle.session.specs.Steps.{Said, Outcome, versionStep, longStep, byRecord, recordStep, stepOf}
-use Rattle.session.specs.Sessions.{lineIn}
-use Rattle.session.specs.Pieces.{farther}
+use Rattle.runs.specs.Sessions.{lineIn}
+use Rattle.runs.specs.Pieces.{farther}
 use Rattle.session.specs.declared.step.Session.{Session}
-use Rattle.session.proofs.Pieces.{step-stands}
-use Rattle.session.proofs.Moving.{step-moves}
+use Rattle.runs.proofs.Pieces.{step-stands}
+use Rattle.runs.proofs.Moving.{step-moves}
 use Rattle.bench.specs.Working.{Gathered, behindLine, gatheredOnce, linesBefore, gatheredFrom, gathered}
 use Rattle.bench.specs.Pieces.{placeFarther, PiecesGathered}
 use Rattle.bench.proofs.Working.{withLines, enough}

@@ -11,11 +11,11 @@ use lib.Dec.{eqb, leb, ltb}
 use lib.ListN.{length, getD}
 use Rattle.rules.specs.Buffers.{Buffers}
 use Rattle.rules.proofs.Choice.{pick-cases, pick-both}
-use Rattle.session.specs.Records.{none, word, short, behind, writeRecord, readRecord, grantRecord, memoryRecord, ofKind, recordAt, longLength}
+use Rattle.records.specs.Records.{none, word, short, behind, writeRecord, readRecord, grantRecord, memoryRecord, ofKind, recordAt, longLength}
 use Rattle.session.specs.Steps.{Said, Outcome, versionStep, longStep, byRecord, recordStep, stepOf}
-use Rattle.session.specs.declared.parse.Record.{Record}
+use Rattle.records.specs.declared.Record.{Record}
 use Rattle.session.specs.declared.step.Session.{Session}
-use Rattle.session.proofs.Saying.{long-there}
+use Rattle.records.proofs.Standing.{long-there}
 
 -- a place behind bytes that are taken from place p on and are all at hand
 abbrev pub Taken : List ℕ → ℕ → ℕ → Type 0

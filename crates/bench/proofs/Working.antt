@@ -15,10 +15,10 @@ use Rattle.rules.specs.Buffers.{Buffers}
 use Rattle.rules.proofs.Choice.{pick-ap, pick-true, pick-false, pick-cases}
 use Rattle.clocking.specs.Answers.{borrowed}
 use Rattle.session.specs.Steps.{Outcome, stepOf, outcome}
-use Rattle.session.specs.Sessions.{lineIn}
+use Rattle.runs.specs.Sessions.{lineIn}
 use Rattle.session.specs.declared.step.Session.{Session}
 use Rattle.session.specs.declared.step.Step.{Step}
-use Rattle.session.proofs.Pieces.{same}
+use Rattle.records.proofs.Choosing.{same}
 use Rattle.bench.specs.Working.{stepBehind, Gathered, behindLine, gatheredOnce, linesBefore, gatheredFrom, gathered, AllGathered, Left, left, leftBy}
 use Rattle.bench.proofs.Taking.{Taken, step-takes}
 
