@@ -11,7 +11,7 @@ pub mod record;
 pub mod run;
 pub mod show;
 pub mod source;
-pub mod spans;
 pub mod text;
+pub mod timeline;
 pub mod trace;
 pub mod words;

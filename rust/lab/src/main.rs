@@ -6,8 +6,10 @@ use lab::input::{self, Form};
 use lab::record::Session;
 use lab::run::Detail;
 use lab::source::{Error, Source};
+use lab::timeline::{self, Timeline};
 use lab::{asm, run, show, text, words};
 use std::io::{self, BufWriter, ErrorKind, Write};
+use std::path::Path;
 use std::process::ExitCode;
 
 const HELP: &str = "\
@@ -16,6 +18,7 @@ Write a program for the zxnDMA as text and see what it does, on the proved libra
   lab run FILE           run a session: the bench's lines, and what they mean
   lab asm FILE -o OUT    make the bench's binary session of it
   lab text FILE          write it as text, with what each line does
+  lab timeline FILE      show who had the bus; with -o OUT.svg as a picture
   lab COMMAND --help     more about a command, and the text language
 FILE is a session as text, as commented hex or in binary; - is standard input.
 Exit status: 0; 1 if a check of the session failed; 2 if the arguments or the
@@ -49,6 +52,20 @@ usage: lab text [--as FORM] FILE [-o OUT]
 Writes a session as text, with what each line does as a comment. 'lab asm' makes
 the same binary session of it.
   --as FORM  the form of FILE: text, hex or binary, where the content misleads
+
+The text language:
+";
+
+const TIMELINE_HELP: &str = "\
+usage: lab timeline [--as FORM] FILE [-o OUT.svg]
+Shows who had the bus in a session: in the terminal, one slot a row and a sign a
+clock; with -o as a picture, time along, in SVG that needs no other file. - is
+standard output. Each port access has the number of its record, as 'lab run' has.
+  --as FORM  the form of FILE: text, hex or binary, where the content misleads
+Waits of more than 64 clocks, slots that are alike and whatever comes again in the
+same order are folded, with their length. Of a session that is still too long the
+start and the end are shown. However long it is, the picture has less than 64 kB.
+After a fault of the session, or if FILE can't be taken, the exit status is 2.
 
 The text language:
 ";
@@ -130,7 +147,7 @@ impl Arguments {
                         }
                     });
                 }
-                ("asm" | "text", "-o") => arguments.out = Some(value("a file")?),
+                ("asm" | "text" | "timeline", "-o") => arguments.out = Some(value("a file")?),
                 ("run", "--all") => arguments.detail = Some(Detail::All),
                 ("run", "--lines") => arguments.detail = Some(Detail::Lines),
                 (_, word) if word.starts_with('-') && word != input::STANDARD_INPUT => {
@@ -168,13 +185,14 @@ fn command(words: &[String]) -> Result<u8, End> {
         "run" => (run_command, RUN_HELP),
         "asm" => (asm_command, ASM_HELP),
         "text" => (text_command, TEXT_HELP),
+        "timeline" => (timeline_command, TIMELINE_HELP),
         "-h" | "--help" | "help" => {
             writeln!(io::stdout(), "{HELP}")?;
             return Ok(0);
         }
         "" => return Err(End::Message("expected a command; 'lab --help' names them".to_string())),
         other => {
-            let expected = "expected run, asm or text";
+            let expected = "expected run, asm, text or timeline";
             return Err(End::Message(format!("{expected}, found {other}; 'lab --help' says more")));
         }
     };
@@ -228,6 +246,26 @@ fn text_command(arguments: &Arguments) -> Result<u8, End> {
     let mut content = Vec::new();
     show::text(&session, &mut content)?;
     input::write(arguments.out.as_deref().unwrap_or(input::STANDARD_INPUT), &content)?;
+    without_fault(&source, &session)?;
+    Ok(0)
+}
+
+fn timeline_command(arguments: &Arguments) -> Result<u8, End> {
+    let (source, session) = arguments.session()?;
+    let session = located(&source, asm::resolve(&session))?;
+    let timeline = Timeline::of(&session);
+    match &arguments.out {
+        Some(out) => {
+            let name = arguments.file.as_deref().map(Path::new).and_then(Path::file_name);
+            let name = name.map_or(String::new(), |name| name.to_string_lossy().into_owned());
+            input::write(out, timeline::svg(&timeline, &name).as_bytes())?;
+        }
+        None => {
+            let mut out = BufWriter::new(io::stdout().lock());
+            timeline::text(&timeline, &mut out)?;
+            out.flush()?;
+        }
+    }
     without_fault(&source, &session)?;
     Ok(0)
 }

@@ -13,8 +13,8 @@
 //! has the bench's line and the device before and after. A `Trace` keeps what
 //! is bounded: totals, the first `LATCH_WRITES` writes to latches, and which
 //! bytes of memory the DMA wrote. Moves and spans are told and not kept, so
-//! that a session of any length takes the same memory; `spans` makes a bounded,
-//! run-length encoded list of them for a picture.
+//! that a session of any length takes the same memory; `timeline` makes a
+//! bounded list of them for a picture.
 
 use crate::record::Record;
 use zxndma::{Clocks, Core, Device, Port, Slot, BUFFER_LENGTH};

@@ -70,12 +70,14 @@ fn a_fault_is_bad_input() {
 
 #[test]
 fn help_and_wrong_arguments() {
-    for arguments in [&["--help"][..], &["run", "--help"], &["asm", "-h"], &["text", "--help"]] {
+    let helps: [&[&str]; 5] =
+        [&["--help"], &["run", "--help"], &["asm", "-h"], &["text", "--help"], &["timeline", "-h"]];
+    for arguments in helps {
         let help = lab(arguments, "");
         assert_eq!(status(&help), 0);
         assert!(said(&help).starts_with("usage: lab "));
     }
-    let wrong: [&[&str]; 8] = [
+    let wrong: [&[&str]; 10] = [
         &[],
         &["walk"],
         &["run"],
@@ -84,6 +86,8 @@ fn help_and_wrong_arguments() {
         &["run", "-o", "x"],
         &["asm", "-"],
         &["run", "/nowhere/at/all"],
+        &["timeline", "--all", "-"],
+        &["timeline", "-", "-o", "/nowhere/at/all.svg"],
     ];
     for arguments in wrong {
         let output = lab(arguments, "");
@@ -99,4 +103,21 @@ fn asm_and_text_are_each_others_way_back() {
     let text = lab(&["text", "-"], "01 0003 02 006B 0005 03 0000000A");
     let again = lab(&["asm", "-", "-o", "-"], &said(&text));
     assert_eq!(again.stdout, binary.stdout, "{}", said(&text));
+}
+
+#[test]
+fn a_timeline_is_text_or_a_picture() {
+    let text = lab(&["timeline", "-"], "run 10\n");
+    assert_eq!(status(&text), 0);
+    assert!(said(&text).contains("\n    0  ..........\n"), "{}", said(&text));
+    let picture = lab(&["timeline", "-", "-o", "-"], "run 10\n");
+    assert_eq!(status(&picture), 0);
+    assert!(said(&picture).starts_with("<svg ") && said(&picture).ends_with("</svg>\n"));
+    // What stands before a fault is shown.
+    let fault = lab(&["timeline", "-"], "01 0005 03 0000000A 00");
+    assert_eq!(status(&fault), 2);
+    assert!(said(&fault).contains("\n   10  fault 21: "), "{}", said(&fault));
+    assert!(errors(&fault).contains("-:1:21: fault 21: "), "{}", errors(&fault));
+    let wrong = lab(&["timeline", "-", "-o", "-"], "run until done\n");
+    assert_eq!((status(&wrong), said(&wrong).as_str()), (2, ""));
 }
