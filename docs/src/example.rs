@@ -3,7 +3,7 @@
 
 #![deny(unsafe_code)]
 
-#[path = "zxndma.rs"]
+#[path = "../../rust/zxndma/src/lib.rs"]
 mod zxndma;
 
 use std::process::exit;

@@ -9,7 +9,7 @@
 
 #![deny(unsafe_code)]
 
-#[path = "zxndma.rs"]
+#[path = "../../rust/zxndma/src/lib.rs"]
 mod zxndma;
 
 use std::any::type_name;
@@ -19,7 +19,7 @@ use std::mem::{size_of, size_of_val};
 use std::process::ExitCode;
 
 const USAGE: &str = "usage: layout HEADER RATTLE...
-Compares the structs of the C header, of the Rattle sources and of zxndma.rs.
+Compares the structs of the C header, of the Rattle sources and of the wrapper.
 The Rattle sources come in the order of their crates, the device's the last.";
 
 #[derive(PartialEq)]
@@ -218,7 +218,7 @@ fn asserted<const N: usize>(header: &str, begin: &str) -> Result<[usize; N], Str
 
 // ---- Rust ----------------------------------------------------------------
 
-/// A struct of zxndma.rs. The pattern names every field: it does not compile
+/// A struct of the wrapper. The pattern names every field: it does not compile
 /// with one left out.
 macro_rules! struct_of {
     ($layout:ident, $value:expr, $name:ident { $($field:ident),* }) => {{

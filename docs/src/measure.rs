@@ -17,7 +17,7 @@ mod generate;
 mod reference;
 #[path = "stepping.rs"]
 mod stepping;
-#[path = "zxndma.rs"]
+#[path = "../../rust/zxndma/src/lib.rs"]
 mod zxndma;
 
 use generate::Rng;

@@ -15,7 +15,7 @@ mod grants;
 mod reference;
 #[path = "stored.rs"]
 mod stored;
-#[path = "zxndma.rs"]
+#[path = "../../rust/zxndma/src/lib.rs"]
 mod zxndma;
 
 use generate::Rng;

@@ -1,5 +1,7 @@
-//! The zxnDMA for Rust: a safe wrapper of libhost.a. Include it as a module
-//! and pass rustc the folder of the library by `-L native=FOLDER`.
+//! The zxnDMA for Rust: a safe wrapper of libhost.a. Use it as a crate, whose
+//! build script finds the library; or include this file as a module and pass
+//! rustc the folder of the library by `-L native=FOLDER`. It compiles in
+//! editions 2021 and 2024.
 //!
 //! A device is plain data, handed over by value and handed back in the
 //! answer. Any content is a device; calls refuse one that is not valid. A
@@ -180,8 +182,21 @@ pub struct GrantAnswer {
     pub device: Device,
 }
 
-#[link(name = "host", kind = "static")]
-extern "C" {
+// Edition 2024 wants the word `unsafe` on a block of foreign functions, and
+// compilers before 1.82 don't know it there. `_` is an `expr` from edition
+// 2024 on, so that the first pattern fits there and the second one elsewhere.
+macro_rules! library {
+    (($edition_2024:expr) $($functions:tt)*) => {
+        #[link(name = "host", kind = "static")]
+        unsafe extern "C" { $($functions)* }
+    };
+    ((_) $($functions:tt)*) => {
+        #[link(name = "host", kind = "static")]
+        extern "C" { $($functions)* }
+    };
+}
+
+library! { (_)
     fn zxndma_power_on() -> Device;
     fn zxndma_write(device: Device, port: u16, byte: u8) -> WriteAnswer;
     fn zxndma_read(device: Device, port: u16) -> ReadAnswer;

@@ -1,0 +1,451 @@
+//! Drives the proved library through a session and tells what happens in it.
+//!
+//! There is no model of the chip here: what is told comes from the library's
+//! answers, the device's fields before and after a grant, and the buffers. A
+//! grant of a session is made in pieces, which the library promises to be the
+//! same as the whole: the first clock of a slot, whose fields then show its bus
+//! time and length; the rest of the bus time; the wait in one; further slots
+//! of the same grant one by one, since no register changes within a grant; and
+//! all clocks of a disabled device in one.
+//!
+//! How to use it: make a `Trace`, hand its `step` each record, and take what
+//! it tells in a closure: `Event`s in the order of their clocks. The answer
+//! has the bench's line and the device before and after. A `Trace` keeps what
+//! is bounded: totals, the first `LATCH_WRITES` writes to latches, and which
+//! bytes of memory the DMA wrote. Moves and spans are told and not kept, so
+//! that a session of any length takes the same memory; `timeline` makes a
+//! bounded list of them for a picture.
+
+use crate::record::Record;
+use zxndma::{Clocks, Core, Device, Port, Slot, BUFFER_LENGTH};
+
+/// Writes to latches that a trace keeps.
+pub const LATCH_WRITES: usize = 65_536;
+
+/// What a clock was.
+#[derive(Clone, Copy, PartialEq, Eq, Debug)]
+pub enum Kind {
+    Bus,
+    Held,
+    Cpu,
+}
+
+/// Clocks of one kind that follow each other.
+#[derive(Clone, Copy, PartialEq, Eq, Debug)]
+pub struct Span {
+    pub kind: Kind,
+    /// Number of the first one; the first clock of a session is 1.
+    pub start: u64,
+    /// How many; not 0.
+    pub clocks: u64,
+    pub part: Part,
+}
+
+/// What clocks are a part of.
+#[derive(Clone, Copy, PartialEq, Eq, Debug)]
+pub enum Part {
+    /// A slot that begins with them.
+    NewSlot,
+    /// The slot that began before them.
+    SameSlot,
+    /// No slot: the device is disabled.
+    NoSlot,
+}
+
+/// One end of a move.
+#[derive(Clone, Copy, PartialEq, Eq, Debug)]
+pub struct End {
+    pub io: bool,
+    pub address: u16,
+}
+
+/// A byte that moved.
+#[derive(Clone, Copy, PartialEq, Eq, Debug)]
+pub struct Move {
+    pub clock: u64,
+    pub from: End,
+    pub to: End,
+    pub byte: u8,
+}
+
+/// What happens. A record is told before what its clocks bring.
+#[derive(Clone, Copy, PartialEq, Eq, Debug)]
+pub enum Event {
+    /// A record, numbered from 1, behind that many clocks, with its
+    /// reply.
+    Record {
+        record: usize,
+        clock: u64,
+        reply: Reply,
+    },
+    Span(Span),
+    Move(Move),
+    /// The block ended with that clock.
+    BlockEnd {
+        clock: u64,
+    },
+    /// And started again.
+    Restart {
+        clock: u64,
+    },
+    /// And the device is disabled.
+    Disabled {
+        clock: u64,
+    },
+}
+
+/// The bench's answer to a record.
+#[derive(Clone, Copy, PartialEq, Eq, Debug)]
+pub struct Reply {
+    /// W, R, G or M.
+    pub letter: char,
+    pub number: u8,
+    /// Of an accepted read.
+    pub byte: Option<u8>,
+}
+
+impl Reply {
+    /// The bench's line, without its line feed.
+    pub fn line(&self) -> String {
+        let Reply { letter, number, byte } = self;
+        match byte {
+            Some(byte) => format!("{letter} {number} {byte:02X}"),
+            None => format!("{letter} {number}"),
+        }
+    }
+}
+
+/// What a record came to.
+#[derive(Clone, Copy, PartialEq, Eq, Debug)]
+pub struct Answer {
+    pub reply: Reply,
+    pub before: Device,
+    pub after: Device,
+}
+
+/// The last line of a session without a fault, without its line feed.
+pub fn last_line(clocks: &Clocks) -> String {
+    format!("B {} {} {}", clocks.bus, clocks.held, clocks.cpu)
+}
+
+/// The last line of a session with a fault, without its line feed.
+pub fn fault_line(number: u8) -> String {
+    format!("S {number}")
+}
+
+/// The ports that the next byte comes from and goes to.
+pub fn source_and_destination(core: &Core) -> (Port, Port) {
+    if core.control.forward {
+        (core.a, core.b)
+    } else {
+        (core.b, core.a)
+    }
+}
+
+/// Clocks without one for the processor.
+#[derive(Clone, Copy, PartialEq, Eq, Debug, Default)]
+pub struct WithoutCpu {
+    /// Up to now.
+    pub current: u64,
+    pub longest: u64,
+}
+
+impl WithoutCpu {
+    pub fn add(&mut self, span: &Span) {
+        match span.kind {
+            Kind::Cpu => self.current = 0,
+            Kind::Bus | Kind::Held => self.current += span.clocks,
+        }
+        self.longest = self.longest.max(self.current);
+    }
+}
+
+/// What a session has come to so far.
+#[derive(Clone, Copy, PartialEq, Eq, Debug, Default)]
+pub struct Totals {
+    pub moves: u64,
+    pub block_ends: u64,
+    pub restarts: u64,
+    pub without_cpu: WithoutCpu,
+    /// All writes to latches, also those that are not kept.
+    pub latch_writes: u64,
+}
+
+/// A device at power-on with its buffers, driven record by record.
+pub struct Trace {
+    device: Device,
+    memory: Vec<u8>,
+    latches: Vec<u8>,
+    records: usize,
+    totals: Totals,
+    latch_writes: Vec<(u16, u8)>,
+    /// Memory as the memory records alone would have it.
+    given: Vec<u8>,
+    /// The bytes of memory that the DMA wrote last.
+    written: Vec<bool>,
+}
+
+/// A stretch of memory that the DMA wrote.
+#[derive(Clone, Copy, PartialEq, Eq, Debug)]
+pub struct Written {
+    pub start: usize,
+    pub end: usize,
+    /// How many of its bytes differ from what was there.
+    pub changed: usize,
+}
+
+/// Tells what happens.
+type Watch<'a> = &'a mut dyn FnMut(Event);
+
+impl Default for Trace {
+    fn default() -> Trace {
+        Trace {
+            device: Device::power_on(),
+            memory: vec![0; BUFFER_LENGTH],
+            latches: vec![0; BUFFER_LENGTH],
+            records: 0,
+            totals: Totals::default(),
+            latch_writes: Vec::new(),
+            given: vec![0; BUFFER_LENGTH],
+            written: vec![false; BUFFER_LENGTH],
+        }
+    }
+}
+
+impl Trace {
+    pub fn device(&self) -> &Device {
+        &self.device
+    }
+
+    pub fn memory(&self) -> &[u8] {
+        &self.memory
+    }
+
+    pub fn latches(&self) -> &[u8] {
+        &self.latches
+    }
+
+    pub fn totals(&self) -> &Totals {
+        &self.totals
+    }
+
+    /// The first `LATCH_WRITES` writes to latches in their order: the address
+    /// and the byte.
+    pub fn latch_writes(&self) -> &[(u16, u8)] {
+        &self.latch_writes
+    }
+
+    /// The clocks that have passed.
+    pub fn clock(&self) -> u64 {
+        let Clocks { bus, held, cpu } = self.device.clocks;
+        bus + held + cpu
+    }
+
+    /// The stretches of memory that the DMA was the last to write, in the
+    /// order of their addresses.
+    pub fn written(&self) -> Vec<Written> {
+        let mut stretches: Vec<Written> = Vec::new();
+        for at in (0..BUFFER_LENGTH).filter(|at| self.written[*at]) {
+            let changed = usize::from(self.memory[at] != self.given[at]);
+            match stretches.last_mut() {
+                Some(last) if last.end == at => {
+                    last.end += 1;
+                    last.changed += changed;
+                }
+                _ => stretches.push(Written { start: at, end: at + 1, changed }),
+            }
+        }
+        stretches
+    }
+
+    /// Takes one record.
+    pub fn step(&mut self, record: &Record, watch: Watch) -> Answer {
+        let before = self.device;
+        let reply = match record {
+            Record::Write { port, byte } => {
+                let answer = self.device.write(*port, *byte);
+                self.device = answer.device;
+                Reply { letter: 'W', number: answer.number, byte: None }
+            }
+            Record::Read { port } => {
+                let answer = self.device.read(*port);
+                self.device = answer.device;
+                let byte = if answer.number == 0 { Some(answer.byte) } else { None };
+                Reply { letter: 'R', number: answer.number, byte }
+            }
+            Record::Grant { clocks } => {
+                Reply { letter: 'G', number: self.grant_number(*clocks), byte: None }
+            }
+            Record::Memory { address, bytes } => {
+                self.put(*address, bytes);
+                Reply { letter: 'M', number: 0, byte: None }
+            }
+        };
+        self.records += 1;
+        watch(Event::Record { record: self.records, clock: self.clock(), reply });
+        if let (Record::Grant { clocks }, 0) = (record, reply.number) {
+            self.grant(*clocks, watch);
+        }
+        Answer { reply, before, after: self.device }
+    }
+
+    /// The fewest clocks that end the running block; none if no block ends,
+    /// since the device is disabled or starts again by itself. Takes them.
+    pub fn until_done(&mut self) -> Option<u32> {
+        if self.device.core.control.restart || !self.device.core.enabled {
+            return None;
+        }
+        let mut alike = None;
+        let mut clocks: u32 = 0;
+        while self.device.core.enabled {
+            clocks =
+                clocks.checked_add(self.advance(u32::MAX - clocks, &mut alike, &mut |_| ()))?;
+        }
+        Some(clocks)
+    }
+
+    /// The number that a grant is answered with. It doesn't depend on whether
+    /// the device is enabled, and the grant to a disabled one writes nothing.
+    fn grant_number(&mut self, clocks: u32) -> u8 {
+        let mut disabled = self.device;
+        disabled.core.enabled = false;
+        disabled.core.slot = Slot { elapsed: 0, bus: 0, length: 0, burst: false };
+        disabled.grant(&mut self.memory, &mut self.latches, clocks).number
+    }
+
+    /// A memory record; addresses wrap.
+    fn put(&mut self, address: u16, bytes: &[u8]) {
+        for (offset, byte) in bytes.iter().enumerate() {
+            let at = (usize::from(address) + offset) % BUFFER_LENGTH;
+            self.memory[at] = *byte;
+            self.given[at] = *byte;
+            self.written[at] = false;
+        }
+    }
+
+    fn grant(&mut self, clocks: u32, watch: Watch) {
+        let mut alike = None;
+        let mut left = clocks;
+        while left > 0 {
+            left -= self.advance(left, &mut alike, watch);
+        }
+    }
+
+    /// Makes a grant of as many clocks as can be told of at once, one at
+    /// least and no more than there are left, and answers how many. A slot that
+    /// has begun in the same grant of the session shows what the next ones are.
+    fn advance(&mut self, left: u32, alike: &mut Option<Slot>, watch: Watch) -> u32 {
+        let core = &self.device.core;
+        let slot = core.slot;
+        if !core.enabled {
+            self.pass(Piece { clocks: left, bus: 0, moves: false, part: Part::NoSlot }, watch);
+            return left;
+        }
+        let elapsed = slot.elapsed;
+        let piece = if elapsed == 0 {
+            match *alike {
+                Some(shape) if u32::from(shape.length) <= left => Piece {
+                    clocks: u32::from(shape.length),
+                    bus: u32::from(shape.bus),
+                    moves: true,
+                    part: Part::NewSlot,
+                },
+                // The first clock, for the fields to show the slot; no slot
+                // has a bus time of one clock.
+                _ => Piece { clocks: 1, bus: 1, moves: false, part: Part::NewSlot },
+            }
+        } else if elapsed < slot.bus {
+            let rest = u32::from(slot.bus - elapsed);
+            let clocks = rest.min(left);
+            Piece { clocks, bus: clocks, moves: clocks == rest, part: Part::SameSlot }
+        } else {
+            let clocks = u32::from(slot.length - elapsed).min(left);
+            Piece { clocks, bus: 0, moves: false, part: Part::SameSlot }
+        };
+        self.pass(piece, watch);
+        let begun = self.device.core.slot;
+        if piece.part == Part::NewSlot && begun.elapsed == 1 {
+            *alike = Some(begun);
+        }
+        piece.clocks
+    }
+
+    /// Grants the clocks of a piece and tells what came of it.
+    fn pass(&mut self, piece: Piece, watch: Watch) {
+        let before = self.device;
+        let start = self.clock() + 1;
+        let granted = before.grant(&mut self.memory, &mut self.latches, piece.clocks);
+        self.device = granted.device;
+        let (was, is) = (before.clocks, self.device.clocks);
+        let [bus, held, cpu] = [is.bus - was.bus, is.held - was.held, is.cpu - was.cpu];
+
+        // Bus time comes before the wait, so that the clock counts tell where
+        // each kind lies.
+        let mut next = Span { kind: Kind::Bus, start, clocks: 0, part: piece.part };
+        for (kind, clocks) in [(Kind::Bus, bus), (Kind::Held, held), (Kind::Cpu, cpu)] {
+            if clocks > 0 {
+                let span = Span { kind, clocks, ..next };
+                self.totals.without_cpu.add(&span);
+                watch(Event::Span(span));
+                next = Span { start: next.start + clocks, part: Part::SameSlot, ..next };
+            }
+            if kind == Kind::Bus && piece.moves {
+                self.moved(&before, start + u64::from(piece.bus) - 1, watch);
+            }
+        }
+        self.slot_end(&before, piece, watch);
+    }
+
+    /// Tells of the byte that moved at that clock: by the pointers before it,
+    /// and by what the destination holds behind it.
+    fn moved(&mut self, before: &Device, clock: u64, watch: Watch) {
+        let (source, destination) = source_and_destination(&before.core);
+        let end = |port: Port| End { io: port.io, address: port.pointer };
+        let (from, to) = (end(source), end(destination));
+        let at = usize::from(to.address);
+        let byte = if to.io { self.latches[at] } else { self.memory[at] };
+        self.totals.moves += 1;
+        if to.io {
+            self.totals.latch_writes += 1;
+            if self.latch_writes.len() < LATCH_WRITES {
+                self.latch_writes.push((to.address, byte));
+            }
+        } else {
+            self.written[at] = true;
+        }
+        watch(Event::Move(Move { clock, from, to, byte }));
+    }
+
+    /// Tells of a block that ended with a piece of an enabled device: this is
+    /// disabled, or its counter has another value than its moves gave it.
+    fn slot_end(&mut self, before: &Device, piece: Piece, watch: Watch) {
+        let (was, is) = (&before.core, &self.device.core);
+        if !was.enabled {
+            return;
+        }
+        let counted = was.block.counter + u32::from(piece.moves);
+        let restarted = is.enabled && is.block.counter != counted;
+        if is.enabled && !restarted {
+            return;
+        }
+        let clock = self.clock();
+        self.totals.block_ends += 1;
+        watch(Event::BlockEnd { clock });
+        if restarted {
+            self.totals.restarts += 1;
+            watch(Event::Restart { clock });
+        } else {
+            watch(Event::Disabled { clock });
+        }
+    }
+}
+
+/// Clocks that are granted at once: bus time, then wait, of one slot.
+#[derive(Clone, Copy)]
+struct Piece {
+    clocks: u32,
+    bus: u32,
+    /// They have the last clock of the bus time, on which the byte moves.
+    moves: bool,
+    part: Part,
+}

@@ -1,0 +1,398 @@
+//! What bytes, registers and answers are called. A register is named by the
+//! bits of its byte, or a parameter by what the device had pending; what it
+//! set is taken from the device's fields.
+
+use crate::trace::{source_and_destination, End};
+use std::fmt;
+use zxndma::{Core, Device, Pending, Port};
+
+/// Of the codes 1 to 10 of pending parameters.
+const PARAMETERS: [&str; 10] = [
+    "A address low",
+    "A address high",
+    "length low",
+    "length high",
+    "A timing",
+    "B timing",
+    "prescaler",
+    "B address low",
+    "B address high",
+    "read mask",
+];
+
+/// The registers that can be read, by their number.
+pub const REGISTERS: [&str; 7] =
+    ["status", "counter low", "counter high", "A low", "A high", "B low", "B high"];
+
+/// The commands of WR6.
+const COMMANDS: [(u8, &str); 12] = [
+    (0xC3, "Reset"),
+    (0xC7, "Reset timing of A"),
+    (0xCB, "Reset timing of B"),
+    (0xCF, "Load"),
+    (0xD3, "Continue"),
+    (0x87, "Enable"),
+    (0x83, "Disable"),
+    (0x8B, "Reinitialize status"),
+    (0xBF, "Read status"),
+    (0xA7, "Start reading"),
+    (0xBB, "Read mask follows"),
+    (0xB3, "Force ready"),
+];
+
+/// Why a call was refused, by its number.
+pub fn refusal(number: u8) -> &'static str {
+    match number {
+        0 => "accepted",
+        1 => "the device is not valid",
+        2 => "the port number's low byte is neither 6B nor 0B",
+        3 => "the device holds the bus",
+        4 => "the memory lent is not 65,536 bytes",
+        5 => "the latches lent are not 65,536 bytes",
+        6 => "the clock counts would not fit 64 bits",
+        _ => "no such number",
+    }
+}
+
+/// What is wrong with a session, by its fault's number.
+pub fn fault(number: u8) -> &'static str {
+    match number {
+        20 => "the version is missing or not 1",
+        21 => "a record is cut short, in its length or behind it",
+        _ => "a record's kind is unknown or missing, or its length is wrong for the kind",
+    }
+}
+
+/// The names of the pending parameters, the next one first.
+pub fn pending(pending: &Pending) -> Vec<&'static str> {
+    let codes = [pending.first, pending.second, pending.third, pending.fourth];
+    codes.iter().filter_map(|code| parameter(*code)).collect()
+}
+
+/// The name of a pending parameter; none for code 0.
+fn parameter(code: u8) -> Option<&'static str> {
+    PARAMETERS.get(usize::from(code).checked_sub(1)?).copied()
+}
+
+/// A number with a comma at each thousand.
+pub fn grouped(number: u64) -> String {
+    let digits = number.to_string();
+    let mut text = String::new();
+    for (at, digit) in digits.chars().enumerate() {
+        if at > 0 && (digits.len() - at) % 3 == 0 {
+            text.push(',');
+        }
+        text.push(digit);
+    }
+    text
+}
+
+/// As many of something: "1 byte", "2 bytes".
+pub fn many(number: u64, what: &str) -> String {
+    let s = if number == 1 { "" } else { "s" };
+    format!("{} {what}{s}", grouped(number))
+}
+
+/// Bytes in hex, with blanks between.
+pub fn hex(bytes: &[u8]) -> String {
+    let pairs: Vec<String> = bytes.iter().map(|byte| format!("{byte:02X}")).collect();
+    pairs.join(" ")
+}
+
+/// One end of a transfer.
+pub fn end(end: End) -> String {
+    format!("{} {:04X}", memory_or_io(end.io), end.address)
+}
+
+fn memory_or_io(io: bool) -> &'static str {
+    if io {
+        "I/O"
+    } else {
+        "memory"
+    }
+}
+
+/// The bytes of a block: its count by length and mode.
+pub fn block_count(core: &Core) -> u32 {
+    u32::from(core.block.length) + u32::from(core.block.zilog)
+}
+
+fn mode(core: &Core) -> &'static str {
+    if core.block.zilog {
+        "Zilog"
+    } else {
+        "zxn"
+    }
+}
+
+fn port_setup(port: &Port) -> String {
+    let step = match port.step {
+        0 => "decrements",
+        1 => "increments",
+        _ => "is fixed",
+    };
+    format!("{}, {step}", memory_or_io(port.io))
+}
+
+fn continuous_or_burst(core: &Core) -> &'static str {
+    if core.control.burst {
+        "burst"
+    } else {
+        "continuous"
+    }
+}
+
+fn prescaler(core: &Core) -> String {
+    match core.control.prescaler {
+        0 => "off".to_string(),
+        prescaler => {
+            let clocks = many(32 * u64::from(prescaler), "clock");
+            format!("{prescaler}, {clocks} for each byte")
+        }
+    }
+}
+
+fn mask(mask: u8) -> String {
+    let named = (0..).zip(REGISTERS).filter(|(bit, _)| mask >> bit & 1 == 1);
+    let names: Vec<&str> = named.map(|(_, name)| name).collect();
+    let names = if names.is_empty() { "status only".to_string() } else { names.join(", ") };
+    format!("{mask:02X}, {names}")
+}
+
+/// What an accepted write did.
+pub struct Written {
+    /// The parameter's name, if it was one.
+    parameter: Option<&'static str>,
+    /// What it set. None for the low byte of a number whose high byte is next.
+    pub set: Option<String>,
+    /// The parameters that a register asks for.
+    next: Vec<&'static str>,
+}
+
+impl fmt::Display for Written {
+    fn fmt(&self, f: &mut fmt::Formatter) -> fmt::Result {
+        let parts: Vec<&str> = self.parameter.into_iter().chain(self.set.as_deref()).collect();
+        write!(f, "{}", parts.join(": "))?;
+        if !self.next.is_empty() {
+            write!(f, "; next: {}", self.next.join(", "))?;
+        }
+        Ok(())
+    }
+}
+
+/// What an accepted write did.
+pub fn write(before: &Device, after: &Device, byte: u8) -> Written {
+    let (was, is) = (&before.core, &after.core);
+    let parameter = parameter(was.pending.first);
+    let mut set = match parameter {
+        Some(_) => parameter_set(was.pending.first, is),
+        None => Some(register(was, is, byte)),
+    };
+    if was.block.zilog != is.block.zilog {
+        let longer = if is.block.zilog { ": a block has length + 1 bytes" } else { "" };
+        let change = format!("mode {}{longer}", mode(is));
+        set = Some(set.map_or(change.clone(), |set| format!("{set}; {change}")));
+    }
+    // A parameter among others goes without the list: its register had it.
+    let asks = was.pending.first == 0 || was.pending.second == 0;
+    let next = if asks { pending(&is.pending) } else { Vec::new() };
+    Written { parameter, set, next }
+}
+
+/// What a parameter, by its code, made of the device.
+fn parameter_set(code: u8, is: &Core) -> Option<String> {
+    let high_is_next = is.pending.first == code + 1;
+    Some(match code {
+        1 | 3 | 8 if high_is_next => return None,
+        1 | 2 => format!("A starts at {:04X}", is.a.address),
+        3 | 4 => format!("length {}", is.block.length),
+        5 => format!("A takes {} clocks", is.a.cycle),
+        6 => format!("B takes {} clocks", is.b.cycle),
+        7 => prescaler(is),
+        8 | 9 => format!("B starts at {:04X}", is.b.address),
+        _ => mask(is.readback.mask),
+    })
+}
+
+/// A byte that came without a parameter pending: the register, and what the
+/// device holds behind it.
+fn register(was: &Core, is: &Core, byte: u8) -> String {
+    let restart = if is.control.restart { "on" } else { "off" };
+    if byte & 0x80 == 0 {
+        match byte & 0b111 {
+            0b100 => format!("WR1: A is {}", port_setup(&is.a)),
+            0b000 => format!("WR2: B is {}", port_setup(&is.b)),
+            _ => {
+                let direction = if is.control.forward { "A to B" } else { "B to A" };
+                format!("WR0: {direction}")
+            }
+        }
+    } else {
+        match byte & 0b11 {
+            0b00 if byte & 0x40 != 0 => format!("WR3, {}", enabled(was, is)),
+            0b00 => format!("WR3, {}", disabled(was)),
+            0b01 => format!("WR4: {}", continuous_or_burst(is)),
+            0b10 if byte & 0b0100_0100 == 0 => format!("WR5: auto restart {restart}"),
+            0b10 => format!("{byte:02X} selects no register"),
+            _ => command(was, is, byte),
+        }
+    }
+}
+
+fn command(was: &Core, is: &Core, byte: u8) -> String {
+    let name = match COMMANDS.iter().find(|(code, _)| *code == byte) {
+        Some((_, name)) => *name,
+        None => return format!("WR6: {byte:02X} is no command of the zxnDMA"),
+    };
+    match byte {
+        0xC3 => format!("{name}: disabled, cycles 4, prescaler off, no auto restart, status 3A"),
+        0xC7 => format!("{name}: A takes {} clocks", is.a.cycle),
+        0xCB => format!("{name}: B takes {} clocks", is.b.cycle),
+        0xCF | 0xD3 => format!(
+            "{name}: A {:04X}, B {:04X}, counter {}",
+            is.a.pointer, is.b.pointer, is.block.counter
+        ),
+        0x87 => enabled(was, is),
+        0x83 => disabled(was),
+        0x8B => format!("{name}: E 1, T 0"),
+        0xBF => format!("{name}: the next read gives it"),
+        0xA7 => format!("{name} at the start of the mask"),
+        0xB3 => format!("{name}: does nothing"),
+        _ => name.to_string(),
+    }
+}
+
+fn enabled(was: &Core, is: &Core) -> String {
+    if was.enabled {
+        return "Enable: it was enabled already".to_string();
+    }
+    if !is.enabled {
+        let (counter, count) = (is.block.counter, block_count(is));
+        return format!("Enable: the block is finished, {counter} of {count}: stays disabled, E 0");
+    }
+    format!("Enable: {}", transfer(is))
+}
+
+/// What an enabled device is to do: mode, ends, bytes left, how.
+pub fn transfer(core: &Core) -> String {
+    let (source, destination) = source_and_destination(core);
+    let at = |port: Port| end(End { io: port.io, address: port.pointer });
+    let left = block_count(core).saturating_sub(core.block.counter);
+    let mut text = format!(
+        "{}, {} -> {}, {}, {}",
+        mode(core),
+        at(source),
+        at(destination),
+        many(u64::from(left), "byte"),
+        continuous_or_burst(core)
+    );
+    if core.control.prescaler != 0 {
+        text += &format!(", prescaler {}", prescaler(core));
+    }
+    if core.control.restart {
+        text += ", auto restart";
+    }
+    text
+}
+
+fn disabled(was: &Core) -> String {
+    let dropped = if was.slot.elapsed > 0 { ": the rest of the wait is dropped" } else { "" };
+    format!("Disable{dropped}")
+}
+
+/// What an accepted read gave: the register's name, and of the status its
+/// bits. The read position behind the read tells the register.
+pub fn read(before: &Device, after: &Device, byte: u8) -> String {
+    let readback = &before.core.readback;
+    if readback.waiting || readback.mask == 0 {
+        return status(byte);
+    }
+    let count = REGISTERS.len();
+    match (usize::from(after.core.readback.position) + count - 1) % count {
+        0 => status(byte),
+        number => REGISTERS[number].to_string(),
+    }
+}
+
+/// The status byte's two bits.
+pub fn status(byte: u8) -> String {
+    let (e, t) = (byte >> 5 & 1, byte & 1);
+    let ended = if e == 0 { "a block has ended" } else { "no block has ended" };
+    let moved = if t == 1 { "a byte has moved" } else { "no byte has moved" };
+    format!("status: E {e}, {ended}; T {t}, {moved}")
+}
+
+#[cfg(test)]
+mod tests {
+    use super::*;
+
+    /// What each byte of a sequence to port 6B is told to do.
+    fn told(bytes: &[u8]) -> Vec<String> {
+        let mut device = Device::power_on();
+        let mut one = |byte: &u8| {
+            let before = device;
+            device = before.write(0x6B, *byte).device;
+            write(&before, &device, *byte).to_string()
+        };
+        bytes.iter().map(&mut one).collect()
+    }
+
+    #[test]
+    fn registers_and_parameters_are_told() {
+        let told =
+            told(&[0x79, 0x00, 0x10, 0x04, 0x00, 0x5C, 0x02, 0x60, 0x21, 55, 0xC5, 0x20, 0xA2]);
+        let expected = [
+            "WR0: B to A; next: A address low, A address high, length low, length high",
+            "A address low",
+            "A address high: A starts at 1000",
+            "length low",
+            "length high: length 4",
+            "WR1: A is I/O, increments; next: A timing",
+            "A timing: A takes 2 clocks",
+            "WR2: B is memory, is fixed; next: B timing",
+            "B timing: B takes 3 clocks; next: prescaler",
+            "prescaler: 55, 1,760 clocks for each byte",
+            "WR4: burst; next: B address low",
+            "B address low: B starts at 0020",
+            "WR5: auto restart on",
+        ];
+        assert_eq!(told, expected);
+    }
+
+    #[test]
+    fn commands_are_told() {
+        let told = told(&[0x87, 0x21, 0x04, 0xCF, 0x87]);
+        assert_eq!(told[0], "Enable: the block is finished, 0 of 0: stays disabled, E 0");
+        assert_eq!(told[3], "Load: A 0000, B 0000, counter 0");
+        assert_eq!(told[4], "Enable: zxn, memory 0000 -> memory 0000, 4 bytes, continuous");
+        for (byte, name) in COMMANDS {
+            let told = self::told(&[byte]);
+            assert!(told[0].starts_with(name), "{byte:02X}: {}", told[0]);
+        }
+    }
+
+    /// 24 bytes select no register, and no other byte does so.
+    #[test]
+    fn every_byte_has_a_name() {
+        let none = (0..=255).filter(|byte| told(&[*byte])[0].ends_with("selects no register"));
+        assert_eq!(none.count(), 24);
+    }
+
+    #[test]
+    fn reads_are_named_by_the_mask() {
+        let mut device = Device::power_on();
+        for byte in [0xBB, 0b0100_0110, 0xBF] {
+            device = device.write(0x6B, byte).device;
+        }
+        let names: Vec<String> = (0..5)
+            .map(|_| {
+                let before = device;
+                let given = before.read(0x6B);
+                device = given.device;
+                read(&before, &device, given.byte)
+            })
+            .collect();
+        let status = "status: E 1, no block has ended; T 0, no byte has moved";
+        assert_eq!(names, [status, "counter low", "counter high", "B high", "counter low"]);
+    }
+}
