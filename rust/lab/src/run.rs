@@ -4,12 +4,15 @@
 use crate::check;
 use crate::record::{Record, Session, Step};
 use crate::source::Source;
-use crate::trace::{fault_line, last_line, Answer, Event, Move, Reply, Trace, WithoutCpu};
+use crate::trace::{
+    fault_line, last_line, Answer, Event, Move, Reply, Trace, WithoutCpu, TOLD_ENDS,
+};
 use crate::words::{self, grouped, many};
 use std::io::{self, Write};
 
-/// Moves, block ends and lines of bytes that are shown, unless all are.
-const FIRST: u64 = 16;
+/// Moves, block ends and lines of bytes that are shown, unless all are. A
+/// brief trace tells as many singly.
+const FIRST: u64 = TOLD_ENDS;
 /// Bytes on a line.
 const ROW: usize = 16;
 /// Before what belongs to the record above.
@@ -41,7 +44,7 @@ pub fn run(
     detail: Detail,
     out: &mut dyn Write,
 ) -> io::Result<Outcome> {
-    let mut trace = Trace::default();
+    let mut trace = if detail == Detail::All { Trace::default() } else { Trace::brief() };
     let mut replies: Vec<Reply> = Vec::new();
     let mut outcome = Outcome::default();
     for item in &session.items {
@@ -202,6 +205,12 @@ impl<'a> Grant<'a> {
             Event::Move(moved) => {
                 self.hidden_moves += 1;
                 self.last_hidden = Some(*moved);
+            }
+            Event::Repeated(repeated) => {
+                self.hidden_moves += repeated.moves;
+                self.last_hidden = Some(repeated.last);
+                self.hidden_ends += repeated.blocks;
+                self.without_cpu.add_repeated(repeated);
             }
             Event::Restart { clock } => self.end(*clock, "starts again"),
             Event::Disabled { clock } => self.end(*clock, "the DMA is disabled"),
