@@ -15,7 +15,7 @@ pub fn assemble(session: &Session) -> Result<Vec<u8>, Error> {
 pub fn resolve(session: &Session) -> Result<Session, Error> {
     let mut resolved = session.clone();
     let last = session.items.iter().rposition(|item| item.step == Step::UntilDone);
-    let mut trace = Trace::default();
+    let mut trace = Trace::brief();
     for item in resolved.items.iter_mut().take(last.map_or(0, |last| last + 1)) {
         let Item { place, step } = item;
         match step {

@@ -3,6 +3,7 @@
 
 #![forbid(unsafe_code)]
 
+pub mod advice;
 pub mod asm;
 pub mod bytes;
 pub mod check;

@@ -4,7 +4,7 @@
 
 use lab::input::{self, Form};
 use lab::record::Session;
-use lab::run::Detail;
+use lab::run::{Detail, Telling};
 use lab::source::{Error, Source};
 use lab::timeline::{self, Timeline};
 use lab::{asm, run, show, text, words};
@@ -25,13 +25,15 @@ Exit status: 0; 1 if a check of the session failed; 2 if the arguments or the
 session can't be taken.";
 
 const RUN_HELP: &str = "\
-usage: lab run [--all | --lines] [--as FORM] FILE
+usage: lab run [--all | --lines] [--no-advice] [--as FORM] FILE
 Runs a session. For each record it writes the record's number, the bench's own
 line and what it means; for a grant the moves with their clock, the first 16; at
 the end the clocks, the memory and latches that the DMA wrote, and what is left.
-  --all      every move and every byte
-  --lines    the bench's lines and nothing else
-  --as FORM  the form of FILE: text, hex or binary, where the content misleads
+Where something looks like a mistake there is advice: the reason, and what to do.
+  --all        every move and every byte
+  --lines      the bench's lines and nothing else
+  --no-advice  leaves out the advice
+  --as FORM    the form of FILE: text, hex or binary, where the content misleads
 A check that fails is shown with what was found, and the exit status is 1. After
 a fault of the session, or if FILE can't be taken, it is 2.
 
@@ -120,6 +122,7 @@ struct Arguments {
     out: Option<String>,
     form: Option<Form>,
     detail: Option<Detail>,
+    no_advice: bool,
     help: bool,
 }
 
@@ -150,6 +153,7 @@ impl Arguments {
                 ("asm" | "text" | "timeline", "-o") => arguments.out = Some(value("a file")?),
                 ("run", "--all") => arguments.detail = Some(Detail::All),
                 ("run", "--lines") => arguments.detail = Some(Detail::Lines),
+                ("run", "--no-advice") => arguments.no_advice = true,
                 (_, word) if word.starts_with('-') && word != input::STANDARD_INPUT => {
                     return Err(usage(format!("unknown switch {word}")));
                 }
@@ -208,8 +212,9 @@ fn run_command(arguments: &Arguments) -> Result<u8, End> {
     let (source, session) = arguments.session()?;
     let session = located(&source, asm::resolve(&session))?;
     let detail = arguments.detail.unwrap_or(Detail::First);
+    let telling = Telling { detail, advice: !arguments.no_advice };
     let mut out = BufWriter::new(io::stdout().lock());
-    let outcome = run::run(&source, &session, detail, &mut out)?;
+    let outcome = run::run(&source, &session, telling, &mut out)?;
     out.flush()?;
     Ok(match outcome {
         _ if outcome.fault => BAD_INPUT,

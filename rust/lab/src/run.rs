@@ -1,19 +1,25 @@
 //! `lab run`: the bench's lines and, beside them, what they mean; and at the
 //! end what the session came to.
 
+use crate::advice::{Advice, Advisor};
 use crate::check;
-use crate::record::{Record, Session, Step};
+use crate::record::{Item, Record, Session, Step};
 use crate::source::Source;
-use crate::trace::{fault_line, last_line, Answer, Event, Move, Reply, Trace, WithoutCpu};
+use crate::trace::{
+    fault_line, last_line, Answer, Event, Move, Reply, Trace, WithoutCpu, TOLD_ENDS,
+};
 use crate::words::{self, grouped, many};
 use std::io::{self, Write};
 
-/// Moves, block ends and lines of bytes that are shown, unless all are.
-const FIRST: u64 = 16;
+/// Moves, block ends and lines of bytes that are shown, unless all are. A
+/// brief trace tells as many singly.
+const FIRST: u64 = TOLD_ENDS;
 /// Bytes on a line.
 const ROW: usize = 16;
 /// Before what belongs to the record above.
 const INDENT: &str = "                 ";
+/// Columns of a paragraph, with what stands before it.
+const WIDTH: usize = 100;
 
 /// What is shown.
 #[derive(Clone, Copy, PartialEq, Eq, Debug)]
@@ -24,6 +30,14 @@ pub enum Detail {
     First,
     /// All moves and bytes.
     All,
+}
+
+/// What is told of a session.
+#[derive(Clone, Copy, PartialEq, Eq, Debug)]
+pub struct Telling {
+    pub detail: Detail,
+    /// Unless only lines are told.
+    pub advice: bool,
 }
 
 /// What a session came to, apart from what was written.
@@ -38,24 +52,33 @@ pub struct Outcome {
 pub fn run(
     source: &Source,
     session: &Session,
-    detail: Detail,
+    telling: Telling,
     out: &mut dyn Write,
 ) -> io::Result<Outcome> {
-    let mut trace = Trace::default();
+    let detail = telling.detail;
+    let mut trace = if detail == Detail::All { Trace::default() } else { Trace::brief() };
     let mut replies: Vec<Reply> = Vec::new();
     let mut outcome = Outcome::default();
-    for item in &session.items {
+    let mut advised = Advised::new(telling.advice);
+    for (at, item) in session.items.iter().enumerate() {
         match &item.step {
             Step::Record(record) => {
-                let reply = match detail {
+                let number = replies.len() + 1;
+                let answer = match detail {
                     Detail::Lines => {
-                        let reply = trace.step(record, &mut |_| ()).reply;
-                        writeln!(out, "{}", reply.line())?;
-                        reply
+                        let answer = trace.step(record, &mut |_| ());
+                        writeln!(out, "{}", answer.reply.line())?;
+                        answer
                     }
-                    _ => record_in_words(&mut trace, record, replies.len() + 1, detail, out)?,
+                    _ => {
+                        let mut watch = |event: &Event| advised.event(event);
+                        let answer =
+                            record_in_words(&mut trace, record, number, detail, &mut watch, out)?;
+                        advised.record(number, record, &answer, &session.items[at + 1..], out)?;
+                        answer
+                    }
                 };
-                replies.push(reply);
+                replies.push(answer.reply);
             }
             Step::Expect(expect) => {
                 if let Some(failure) = check::failure(expect, &trace, &replies) {
@@ -88,6 +111,7 @@ pub fn run(
         message.lines().try_for_each(|line| writeln!(out, "{INDENT}{line}"))?;
     }
     summary(&trace, detail, out)?;
+    advised.end(&trace, out)?;
     let checks = session.items.iter().filter(|item| matches!(item.step, Step::Expect(_))).count();
     if checks > 0 {
         let failed = outcome.failed_checks;
@@ -129,31 +153,35 @@ fn refused(record: &Record, number: u8) -> String {
 }
 
 /// Takes a record and writes its row. A grant's row comes before what its
-/// clocks bring.
+/// clocks bring, which `watch` is told too.
 fn record_in_words(
     trace: &mut Trace,
     record: &Record,
     number: usize,
     detail: Detail,
+    watch: &mut dyn FnMut(&Event),
     out: &mut dyn Write,
-) -> io::Result<Reply> {
+) -> io::Result<Answer> {
     if !matches!(record, Record::Grant { .. }) {
         let answer = trace.step(record, &mut |_| ());
         row(out, number, &answer.reply, &answer_in_words(record, &answer))?;
-        return Ok(answer.reply);
+        return Ok(answer);
     }
     let before = *trace.device();
     let mut grant = Grant::new(out, detail);
-    let Answer { reply, after, .. } = trace.step(record, &mut |event| match event {
-        Event::Record { reply, .. } => {
-            let answer = Answer { reply, before, after: before };
-            grant.write(|out| row(out, number, &reply, &answer_in_words(record, &answer)));
+    let answer = trace.step(record, &mut |event| {
+        watch(&event);
+        match event {
+            Event::Record { reply, .. } => {
+                let answer = Answer { reply, before, after: before };
+                grant.write(|out| row(out, number, &reply, &answer_in_words(record, &answer)));
+            }
+            _ => grant.event(&event),
         }
-        _ => grant.event(&event),
     });
-    let (was, is) = (before.clocks, after.clocks);
+    let (was, is) = (before.clocks, answer.after.clocks);
     grant.finish([is.bus - was.bus, is.held - was.held, is.cpu - was.cpu])?;
-    Ok(reply)
+    Ok(answer)
 }
 
 /// Tells what the clocks of a grant bring, as it comes.
@@ -203,6 +231,12 @@ impl<'a> Grant<'a> {
                 self.hidden_moves += 1;
                 self.last_hidden = Some(*moved);
             }
+            Event::Repeated(repeated) => {
+                self.hidden_moves += repeated.moves;
+                self.last_hidden = Some(repeated.last);
+                self.hidden_ends += repeated.blocks;
+                self.without_cpu.add_repeated(repeated);
+            }
             Event::Restart { clock } => self.end(*clock, "starts again"),
             Event::Disabled { clock } => self.end(*clock, "the DMA is disabled"),
             Event::BlockEnd { .. } | Event::Record { .. } => {}
@@ -248,6 +282,85 @@ fn counts_in_words(bus: u64, held: u64, cpu: u64, longest: u64) -> String {
 fn move_in_words(moved: &Move) -> String {
     let Move { clock, from, to, byte } = *moved;
     format!("clock {clock}: {} -> {}: {byte:02X}", words::end(from), words::end(to))
+}
+
+// ---- Advice --------------------------------------------------------------
+
+/// Advice as it is told: below the record that it is about, and at the end.
+struct Advised {
+    /// None if no advice is wanted.
+    advisor: Option<Advisor>,
+    /// The first records with advice, and how many there are in all.
+    first: Vec<String>,
+    records: usize,
+}
+
+impl Advised {
+    fn new(wanted: bool) -> Advised {
+        let advisor = if wanted { Some(Advisor::default()) } else { None };
+        Advised { advisor, first: Vec::new(), records: 0 }
+    }
+
+    fn event(&mut self, event: &Event) {
+        if let Some(advisor) = &mut self.advisor {
+            advisor.event(event);
+        }
+    }
+
+    fn record(
+        &mut self,
+        number: usize,
+        record: &Record,
+        answer: &Answer,
+        following: &[Item],
+        out: &mut dyn Write,
+    ) -> io::Result<()> {
+        let advisor = match &mut self.advisor {
+            Some(advisor) => advisor,
+            None => return Ok(()),
+        };
+        let advice = advisor.record(record, answer, following);
+        if !advice.is_empty() {
+            self.records += 1;
+            if self.records as u64 <= FIRST {
+                self.first.push(number.to_string());
+            }
+        }
+        advice.iter().try_for_each(|advice| paragraph(out, INDENT, advice))
+    }
+
+    /// The advice on the session's end, and where there was some before.
+    fn end(&mut self, trace: &Trace, out: &mut dyn Write) -> io::Result<()> {
+        let advice = self.advisor.as_mut().map_or_else(Vec::new, |advisor| advisor.end(trace));
+        advice.iter().try_for_each(|advice| paragraph(out, "", advice))?;
+        let records = match self.records {
+            0 => return Ok(()),
+            1 => "record",
+            _ => "records",
+        };
+        let more = match self.records - self.first.len() {
+            0 => String::new(),
+            more => format!(" and {more} more"),
+        };
+        writeln!(out, "Advice above, at {records} {}{more}.", self.first.join(", "))
+    }
+}
+
+/// Words in lines of `WIDTH` columns, each behind the margin.
+fn paragraph(out: &mut dyn Write, margin: &str, advice: &Advice) -> io::Result<()> {
+    let mut line = margin.to_string();
+    for word in advice.to_string().split(' ') {
+        if line.len() > margin.len() {
+            if line.len() + 1 + word.len() > WIDTH {
+                writeln!(out, "{line}")?;
+                line.truncate(margin.len());
+            } else {
+                line.push(' ');
+            }
+        }
+        line.push_str(word);
+    }
+    writeln!(out, "{line}")
 }
 
 // ---- The end -------------------------------------------------------------

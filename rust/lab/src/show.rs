@@ -13,7 +13,7 @@ const COMMENT: usize = 40;
 
 /// Writes the text of a session in which every `run until done` is resolved.
 pub fn text(session: &Session, out: &mut dyn Write) -> io::Result<()> {
-    let mut trace = Trace::default();
+    let mut trace = Trace::brief();
     let mut written = Writes::default();
     for item in &session.items {
         match &item.step {

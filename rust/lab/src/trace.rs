@@ -6,7 +6,9 @@
 //! same as the whole: the first clock of a slot, whose fields then show its bus
 //! time and length; the rest of the bus time; the wait in one; further slots
 //! of the same grant one by one, since no register changes within a grant; and
-//! all clocks of a disabled device in one.
+//! all clocks of a disabled device in one. Under auto restart a brief trace
+//! takes blocks that repeat in one piece, too: no register changes within a
+//! grant, so that a core which comes back takes the same course again.
 //!
 //! How to use it: make a `Trace`, hand its `step` each record, and take what
 //! it tells in a closure: `Event`s in the order of their clocks. The answer
@@ -21,6 +23,8 @@ use zxndma::{Clocks, Core, Device, Port, Slot, BUFFER_LENGTH};
 
 /// Writes to latches that a trace keeps.
 pub const LATCH_WRITES: usize = 65_536;
+/// Block ends of a grant that a brief trace tells singly.
+pub const TOLD_ENDS: u64 = 16;
 
 /// What a clock was.
 #[derive(Clone, Copy, PartialEq, Eq, Debug)]
@@ -92,6 +96,21 @@ pub enum Event {
     Disabled {
         clock: u64,
     },
+    /// Whole blocks that went as the one before them, told at once by a brief
+    /// trace.
+    Repeated(Repeated),
+}
+
+/// Blocks that repeat under auto restart. Each ended, and started again.
+#[derive(Clone, Copy, PartialEq, Eq, Debug)]
+pub struct Repeated {
+    pub blocks: u64,
+    pub moves: u64,
+    pub last: Move,
+    /// All their clocks, and those of the processor among them. If there are
+    /// any of these, then the last clock of each block is one.
+    pub clocks: u64,
+    pub cpu: u64,
 }
 
 /// The bench's answer to a record.
@@ -133,6 +152,11 @@ pub fn fault_line(number: u8) -> String {
     format!("S {number}")
 }
 
+/// The clocks that have passed.
+pub fn passed(clocks: &Clocks) -> u64 {
+    clocks.bus + clocks.held + clocks.cpu
+}
+
 /// The ports that the next byte comes from and goes to.
 pub fn source_and_destination(core: &Core) -> (Port, Port) {
     if core.control.forward {
@@ -158,6 +182,15 @@ impl WithoutCpu {
         }
         self.longest = self.longest.max(self.current);
     }
+
+    /// After the block that they repeat: with clocks of the processor, no
+    /// stretch in them is longer than those in that one.
+    pub fn add_repeated(&mut self, repeated: &Repeated) {
+        if repeated.cpu == 0 {
+            self.current += repeated.clocks;
+            self.longest = self.longest.max(self.current);
+        }
+    }
 }
 
 /// What a session has come to so far.
@@ -172,12 +205,16 @@ pub struct Totals {
 }
 
 /// A device at power-on with its buffers, driven record by record.
+#[derive(Clone)]
 pub struct Trace {
+    /// Blocks that repeat are told at once.
+    brief: bool,
     device: Device,
     memory: Vec<u8>,
     latches: Vec<u8>,
     records: usize,
     totals: Totals,
+    last_move: Option<Move>,
     latch_writes: Vec<(u16, u8)>,
     /// Memory as the memory records alone would have it.
     given: Vec<u8>,
@@ -200,11 +237,13 @@ type Watch<'a> = &'a mut dyn FnMut(Event);
 impl Default for Trace {
     fn default() -> Trace {
         Trace {
+            brief: false,
             device: Device::power_on(),
             memory: vec![0; BUFFER_LENGTH],
             latches: vec![0; BUFFER_LENGTH],
             records: 0,
             totals: Totals::default(),
+            last_move: None,
             latch_writes: Vec::new(),
             given: vec![0; BUFFER_LENGTH],
             written: vec![false; BUFFER_LENGTH],
@@ -213,6 +252,12 @@ impl Default for Trace {
 }
 
 impl Trace {
+    /// A trace that tells of blocks which repeat within a grant at once, once
+    /// it has told `TOLD_ENDS` block ends of that grant singly.
+    pub fn brief() -> Trace {
+        Trace { brief: true, ..Trace::default() }
+    }
+
     pub fn device(&self) -> &Device {
         &self.device
     }
@@ -237,8 +282,7 @@ impl Trace {
 
     /// The clocks that have passed.
     pub fn clock(&self) -> u64 {
-        let Clocks { bus, held, cpu } = self.device.clocks;
-        bus + held + cpu
+        passed(&self.device.clocks)
     }
 
     /// The stretches of memory that the DMA was the last to write, in the
@@ -326,9 +370,57 @@ impl Trace {
     fn grant(&mut self, clocks: u32, watch: Watch) {
         let mut alike = None;
         let mut left = clocks;
+        let restarts_before = self.totals.restarts;
+        let mut start: Option<BlockStart> = None;
         while left > 0 {
+            let restarts = self.totals.restarts;
             left -= self.advance(left, &mut alike, watch);
+            if !self.brief || self.totals.restarts == restarts {
+                continue;
+            }
+            let told = self.totals.restarts - restarts_before;
+            if let Some(start) = start.filter(|_| told >= TOLD_ENDS) {
+                left -= self.repeat(&start, left, watch);
+            }
+            start = Some(BlockStart { device: self.device, totals: self.totals });
         }
+    }
+
+    /// Takes as many whole blocks like the one from that start to here as fit,
+    /// and answers their clocks: 0 where they cannot be told from it.
+    fn repeat(&mut self, start: &BlockStart, left: u32, watch: Watch) -> u32 {
+        let block = self.clock() - passed(&start.device.clocks);
+        let cpu = self.device.clocks.cpu - start.device.clocks.cpu;
+        let blocks = u64::from(left) / block;
+        // The bytes that go to latches are kept in their order as long as
+        // there is room.
+        let kept = self.totals.latch_writes == start.totals.latch_writes
+            || self.latch_writes.len() == LATCH_WRITES;
+        let stretches = cpu == 0 || self.totals.without_cpu.current == 0;
+        if blocks == 0 || self.device.core != start.device.core || !kept || !stretches {
+            return 0;
+        }
+        let last = match self.last_move {
+            Some(last) => last,
+            None => return 0,
+        };
+        let clocks = blocks * block;
+        let granted = self.device.grant(&mut self.memory, &mut self.latches, clocks as u32);
+        self.device = granted.device;
+        let buffer = if last.to.io { &self.latches } else { &self.memory };
+        let byte = buffer[usize::from(last.to.address)];
+        let last = Move { clock: last.clock + clocks, byte, ..last };
+        let moves = blocks * (self.totals.moves - start.totals.moves);
+        let repeated = Repeated { blocks, moves, last, clocks, cpu: blocks * cpu };
+        let latch_writes = self.totals.latch_writes - start.totals.latch_writes;
+        self.last_move = Some(last);
+        self.totals.moves += moves;
+        self.totals.latch_writes += blocks * latch_writes;
+        self.totals.block_ends += blocks;
+        self.totals.restarts += blocks;
+        self.totals.without_cpu.add_repeated(&repeated);
+        watch(Event::Repeated(repeated));
+        clocks as u32
     }
 
     /// Makes a grant of as many clocks as can be told of at once, one at
@@ -413,7 +505,9 @@ impl Trace {
         } else {
             self.written[at] = true;
         }
-        watch(Event::Move(Move { clock, from, to, byte }));
+        let moved = Move { clock, from, to, byte };
+        self.last_move = Some(moved);
+        watch(Event::Move(moved));
     }
 
     /// Tells of a block that ended with a piece of an enabled device: this is
@@ -438,6 +532,13 @@ impl Trace {
             watch(Event::Disabled { clock });
         }
     }
+}
+
+/// What there was as a block started again.
+#[derive(Clone, Copy)]
+struct BlockStart {
+    device: Device,
+    totals: Totals,
 }
 
 /// Clocks that are granted at once: bus time, then wait, of one slot.

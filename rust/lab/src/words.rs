@@ -20,18 +20,24 @@ const PARAMETERS: [&str; 10] = [
     "read mask",
 ];
 
+pub const PRESCALER: u8 = 7;
+pub const READ_MASK: u8 = 10;
+
 /// The registers that can be read, by their number.
 pub const REGISTERS: [&str; 7] =
     ["status", "counter low", "counter high", "A low", "A high", "B low", "B high"];
+
+pub const LOAD: u8 = 0xCF;
+pub const ENABLE: u8 = 0x87;
 
 /// The commands of WR6.
 const COMMANDS: [(u8, &str); 12] = [
     (0xC3, "Reset"),
     (0xC7, "Reset timing of A"),
     (0xCB, "Reset timing of B"),
-    (0xCF, "Load"),
+    (LOAD, "Load"),
     (0xD3, "Continue"),
-    (0x87, "Enable"),
+    (ENABLE, "Enable"),
     (0x83, "Disable"),
     (0x8B, "Reinitialize status"),
     (0xBF, "Read status"),
@@ -39,6 +45,42 @@ const COMMANDS: [(u8, &str); 12] = [
     (0xBB, "Read mask follows"),
     (0xB3, "Force ready"),
 ];
+
+/// What a byte selects that comes without a parameter pending.
+#[derive(Clone, Copy, PartialEq, Eq, Debug)]
+pub enum Register {
+    Wr0,
+    Wr1,
+    Wr2,
+    Wr3,
+    Wr4,
+    Wr5,
+    Wr6,
+    None,
+}
+
+pub fn selected(byte: u8) -> Register {
+    match (byte >> 7, byte & 0b11) {
+        (0, 0b00) if byte & 0b100 != 0 => Register::Wr1,
+        (0, 0b00) => Register::Wr2,
+        (0, _) => Register::Wr0,
+        (_, 0b00) => Register::Wr3,
+        (_, 0b01) => Register::Wr4,
+        (_, 0b10) if byte & 0b0100_0100 == 0 => Register::Wr5,
+        (_, 0b10) => Register::None,
+        _ => Register::Wr6,
+    }
+}
+
+/// The byte is Enable, by WR6 or WR3, if it comes without a parameter pending.
+pub fn enables(byte: u8) -> bool {
+    byte == ENABLE || selected(byte) == Register::Wr3 && byte & 0x40 != 0
+}
+
+/// The name of a command of WR6.
+pub fn command_name(byte: u8) -> Option<&'static str> {
+    COMMANDS.iter().find(|(code, _)| *code == byte).map(|(_, name)| *name)
+}
 
 /// Why a call was refused, by its number.
 pub fn refusal(number: u8) -> &'static str {
@@ -70,7 +112,7 @@ pub fn pending(pending: &Pending) -> Vec<&'static str> {
 }
 
 /// The name of a pending parameter; none for code 0.
-fn parameter(code: u8) -> Option<&'static str> {
+pub fn parameter(code: u8) -> Option<&'static str> {
     PARAMETERS.get(usize::from(code).checked_sub(1)?).copied()
 }
 
@@ -132,6 +174,15 @@ fn port_setup(port: &Port) -> String {
         _ => "is fixed",
     };
     format!("{}, {step}", memory_or_io(port.io))
+}
+
+/// Where bytes go.
+pub fn direction(core: &Core) -> &'static str {
+    if core.control.forward {
+        "A to B"
+    } else {
+        "B to A"
+    }
 }
 
 fn continuous_or_burst(core: &Core) -> &'static str {
@@ -196,6 +247,8 @@ pub fn write(before: &Device, after: &Device, byte: u8) -> Written {
     // A parameter among others goes without the list: its register had it.
     let asks = was.pending.first == 0 || was.pending.second == 0;
     let next = if asks { pending(&is.pending) } else { Vec::new() };
+    // What these two set begins with their name.
+    let parameter = parameter.filter(|_| !matches!(was.pending.first, PRESCALER | READ_MASK));
     Written { parameter, set, next }
 }
 
@@ -208,51 +261,44 @@ fn parameter_set(code: u8, is: &Core) -> Option<String> {
         3 | 4 => format!("length {}", is.block.length),
         5 => format!("A takes {} clocks", is.a.cycle),
         6 => format!("B takes {} clocks", is.b.cycle),
-        7 => prescaler(is),
+        PRESCALER => format!("prescaler {}", prescaler(is)),
         8 | 9 => format!("B starts at {:04X}", is.b.address),
-        _ => mask(is.readback.mask),
+        _ => format!("read mask {}", mask(is.readback.mask)),
     })
 }
 
 /// A byte that came without a parameter pending: the register, and what the
 /// device holds behind it.
 fn register(was: &Core, is: &Core, byte: u8) -> String {
-    let restart = if is.control.restart { "on" } else { "off" };
-    if byte & 0x80 == 0 {
-        match byte & 0b111 {
-            0b100 => format!("WR1: A is {}", port_setup(&is.a)),
-            0b000 => format!("WR2: B is {}", port_setup(&is.b)),
-            _ => {
-                let direction = if is.control.forward { "A to B" } else { "B to A" };
-                format!("WR0: {direction}")
-            }
+    match selected(byte) {
+        Register::Wr0 => format!("WR0: {}", direction(is)),
+        Register::Wr1 => format!("WR1: A is {}", port_setup(&is.a)),
+        Register::Wr2 => format!("WR2: B is {}", port_setup(&is.b)),
+        Register::Wr3 if enables(byte) => format!("WR3, {}", enabled(was, is)),
+        Register::Wr3 => format!("WR3, {}", disabled(was)),
+        Register::Wr4 => format!("WR4: {}", continuous_or_burst(is)),
+        Register::Wr5 => {
+            format!("WR5: auto restart {}", if is.control.restart { "on" } else { "off" })
         }
-    } else {
-        match byte & 0b11 {
-            0b00 if byte & 0x40 != 0 => format!("WR3, {}", enabled(was, is)),
-            0b00 => format!("WR3, {}", disabled(was)),
-            0b01 => format!("WR4: {}", continuous_or_burst(is)),
-            0b10 if byte & 0b0100_0100 == 0 => format!("WR5: auto restart {restart}"),
-            0b10 => format!("{byte:02X} selects no register"),
-            _ => command(was, is, byte),
-        }
+        Register::Wr6 => command(was, is, byte),
+        Register::None => format!("{byte:02X} selects no register"),
     }
 }
 
 fn command(was: &Core, is: &Core, byte: u8) -> String {
-    let name = match COMMANDS.iter().find(|(code, _)| *code == byte) {
-        Some((_, name)) => *name,
+    let name = match command_name(byte) {
+        Some(name) => name,
         None => return format!("WR6: {byte:02X} is no command of the zxnDMA"),
     };
     match byte {
         0xC3 => format!("{name}: disabled, cycles 4, prescaler off, no auto restart, status 3A"),
         0xC7 => format!("{name}: A takes {} clocks", is.a.cycle),
         0xCB => format!("{name}: B takes {} clocks", is.b.cycle),
-        0xCF | 0xD3 => format!(
+        LOAD | 0xD3 => format!(
             "{name}: A {:04X}, B {:04X}, counter {}",
             is.a.pointer, is.b.pointer, is.block.counter
         ),
-        0x87 => enabled(was, is),
+        ENABLE => enabled(was, is),
         0x83 => disabled(was),
         0x8B => format!("{name}: E 1, T 0"),
         0xBF => format!("{name}: the next read gives it"),
@@ -351,7 +397,7 @@ mod tests {
             "A timing: A takes 2 clocks",
             "WR2: B is memory, is fixed; next: B timing",
             "B timing: B takes 3 clocks; next: prescaler",
-            "prescaler: 55, 1,760 clocks for each byte",
+            "prescaler 55, 1,760 clocks for each byte",
             "WR4: burst; next: B address low",
             "B address low: B starts at 0020",
             "WR5: auto restart on",

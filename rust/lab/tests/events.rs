@@ -6,7 +6,7 @@ mod generate;
 
 use lab::bytes::binary_session;
 use lab::record::Record;
-use lab::trace::{Event, Kind, Move, Trace};
+use lab::trace::{Event, Kind, Move, Trace, WithoutCpu, TOLD_ENDS};
 use zxndma::{Device, BUFFER_LENGTH};
 
 /// More clocks than this are not taken singly.
@@ -114,6 +114,7 @@ impl Told {
             Event::BlockEnd { clock } => self.ends.push(clock),
             Event::Restart { clock } => self.restarts.push(clock),
             Event::Disabled { clock } => self.disabled.push(clock),
+            Event::Repeated(_) => panic!("only a brief trace tells of blocks at once"),
         }
     }
 }
@@ -156,4 +157,52 @@ fn the_trace_tells_what_single_clocks_show() {
         restarts += told.restarts.len();
     }
     assert!(moves > 10_000 && restarts > 100, "too little tried: {moves}, {restarts}");
+}
+
+/// What a brief trace leaves out is in its counts.
+#[test]
+fn a_brief_trace_comes_to_the_same() {
+    let mut repeated = 0;
+    for number in 0..SESSIONS {
+        let session = binary_session(&generate::session(&mut generate::Rng::numbered(9, number)));
+        let (mut every, mut brief) = (Trace::default(), Trace::brief());
+        for record in session.records() {
+            let mut told = Told::default();
+            let mut longest = [WithoutCpu::default(); 2];
+            let mut last = None;
+            let answer = every.step(record, &mut |event| match event {
+                Event::Span(span) => longest[0].add(&span),
+                Event::Move(moved) => told.moves.push(moved),
+                Event::Restart { clock } => told.restarts.push(clock),
+                _ => {}
+            });
+            let (mut moves, mut restarts) = (0, 0);
+            let briefly = brief.step(record, &mut |event| match event {
+                Event::Span(span) => longest[1].add(&span),
+                Event::Move(moved) => {
+                    moves += 1;
+                    last = Some(moved);
+                }
+                Event::Restart { .. } => restarts += 1,
+                Event::Repeated(blocks) => {
+                    assert!(restarts >= TOLD_ENDS as usize, "session {number}");
+                    longest[1].add_repeated(&blocks);
+                    moves += blocks.moves as usize;
+                    restarts += blocks.blocks as usize;
+                    last = Some(blocks.last);
+                    repeated += blocks.blocks;
+                }
+                _ => {}
+            });
+            assert_eq!(answer, briefly, "session {number}");
+            assert_eq!((told.moves.len(), told.restarts.len()), (moves, restarts));
+            assert_eq!(told.moves.last(), last.as_ref(), "session {number}");
+            assert_eq!(longest[0], longest[1], "session {number}");
+        }
+        assert_eq!(every.totals(), brief.totals(), "session {number}");
+        assert!(every.memory() == brief.memory() && every.latches() == brief.latches());
+        assert!(every.latch_writes() == brief.latch_writes());
+        assert_eq!(every.written(), brief.written(), "session {number}");
+    }
+    assert!(repeated > 1_000, "too little tried: {repeated}");
 }

@@ -9,6 +9,7 @@ use lab::asm::{assemble, resolve};
 use lab::bytes::{binary_session, to_bytes};
 use lab::input::{self, form_of, Form};
 use lab::record::Session;
+use lab::run::{run, Detail, Telling};
 use lab::{show, text};
 
 fn no_files(_: &str) -> Result<Vec<u8>, String> {
@@ -93,7 +94,8 @@ fn the_checks_of_that_text_hold() {
     let session = resolve(&read(TABLES)).expect("a block that ends");
     let mut out = Vec::new();
     let source = lab::source::Source::of_text("tables", TABLES);
-    let outcome = lab::run::run(&source, &session, lab::run::Detail::First, &mut out);
+    let telling = Telling { detail: Detail::First, advice: true };
+    let outcome = run(&source, &session, telling, &mut out);
     let report = String::from_utf8_lossy(&out);
     assert_eq!(outcome.expect("a vector takes all").failed_checks, 0, "{report}");
 }

@@ -9,7 +9,7 @@ mod process;
 use lab::bytes::binary_session;
 use lab::input;
 use lab::record::Session;
-use lab::run::{run, Detail};
+use lab::run::{run, Detail, Telling};
 use lab::source::Source;
 use std::fs;
 use std::path::{Path, PathBuf};
@@ -22,18 +22,21 @@ fn setting(name: &str, otherwise: u64) -> u64 {
     std::env::var(name).map_or(otherwise, |value| value.parse().expect(name))
 }
 
+fn told(session: &Session, detail: Detail) -> String {
+    let mut out = Vec::new();
+    let telling = Telling { detail, advice: true };
+    run(&Source::default(), session, telling, &mut out).expect("a vector takes all");
+    String::from_utf8(out).expect("it is text")
+}
+
 /// The lab's lines alone.
 fn lines(session: &Session) -> String {
-    let mut out = Vec::new();
-    run(&Source::default(), session, Detail::Lines, &mut out).expect("a vector takes all");
-    String::from_utf8(out).expect("lines are text")
+    told(session, Detail::Lines)
 }
 
 /// The lines that stand beside the words: behind the number of their record.
 fn lines_beside_words(session: &Session) -> String {
-    let mut out = Vec::new();
-    run(&Source::default(), session, Detail::First, &mut out).expect("a vector takes all");
-    let text = String::from_utf8(out).expect("words are text");
+    let text = told(session, Detail::First);
     let report = text.split("\n\n").next().expect("there is a first part");
     let rows = report.lines().filter(|row| !row.starts_with("         "));
     let line = |row: &str| row[7..].split("  ").next().expect("a row has a line").to_string();

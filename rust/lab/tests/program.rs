@@ -59,6 +59,26 @@ fn until_done_says_why_nothing_would_end() {
     assert!(errors(&restarts).contains("-:3:1: expected a block that ends: with auto restart"));
 }
 
+/// Without advice everything else is told as before, and the status is the
+/// same.
+#[test]
+fn advice_can_be_left_out() {
+    let session = "out $6B, $87\nrun 10\nout $6B, $AD\nexpect counts 0 0 10\n";
+    let (with, without) = (lab(&["run", "-"], session), lab(&["run", "--no-advice", "-"], session));
+    assert_eq!((status(&with), status(&without)), (0, 0));
+    assert!(said(&with).contains("  advice: the block has no bytes"), "{}", said(&with));
+    assert!(said(&with).contains("\nadvice: the session ends with B address low"));
+    assert!(said(&with).contains("\nAdvice above, at record 1.\n"), "{}", said(&with));
+    let mut rest = said(&with);
+    for advice in ["                 advice: ", "advice: ", "Advice above"] {
+        let start = rest.find(&format!("\n{advice}")).expect(advice) + 1;
+        // It ends with the only full stop at the end of a line.
+        let end = start + rest[start..].find(".\n").expect(advice) + 2;
+        rest.replace_range(start..end, "");
+    }
+    assert_eq!(rest, said(&without));
+}
+
 #[test]
 fn a_fault_is_bad_input() {
     let fault = lab(&["run", "--lines", "-"], "01 0005 03 0000000A 00");
