@@ -329,7 +329,7 @@ impl Watch {
             }
             Event::Restart { .. } => self.block_end(BlockEnd::Restart),
             Event::Disabled { .. } => self.block_end(BlockEnd::Disabled),
-            Event::BlockEnd { .. } => {}
+            Event::BlockEnd { .. } | Event::Repeated(_) => {}
         }
     }
 
