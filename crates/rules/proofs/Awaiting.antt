@@ -6,6 +6,7 @@ use native.Mathlib.Omega.{arith}
 use mathlib.Core.Path.{_≡_, refl, sym, _∙_, subst}
 use mathlib.Core.Bool.{Bool, true, false}
 use mathlib.Core.List.{List, [], _∷_}
+use lib.ListN.{drop}
 use borrow.Author.Tests.{leb-true, eqb-true}
 use Rattle.rules.specs.Choice.{pick}
 use Rattle.rules.specs.Pending.{follows, validPending}
@@ -63,10 +64,26 @@ among-each P p [] a e = clash e
 among-each P p (q ∷ qs) a e =
     any-cases _ _ e (λ h. subst P (same-codes p q h) (a .0)) (λ h. any-cases _ _ h (λ k. among-each P p qs (a .1) k) any-none)
 
+-- each of them, by a byte that asks for it
+other-awaited : Each Awaited (drop 16 sequences)
+unfolding opened
+other-awaited =
+    (byWR1 0x44 (omega arith) refl, (byWR2 0x40 (omega arith) refl, (byTiming, (byWR4 0x85 (omega arith) refl, (byWR4 0x89 (omega arith) refl, (byWR4 0x8D (omega arith) refl, (byMaskCommand, tt)))))))
+
+longer-awaited : Each Awaited (drop 11 sequences)
+unfolding opened
+longer-awaited =
+    (byWR0 57 (omega arith) refl, (byWR0 89 (omega arith) refl, (byWR0 105 (omega arith) refl, (byWR0 113 (omega arith) refl, (byWR0 121 (omega arith) refl, other-awaited)))))
+
+pairs-awaited : Each Awaited (drop 5 sequences)
+unfolding opened
+pairs-awaited =
+    (byWR0 25 (omega arith) refl, (byWR0 41 (omega arith) refl, (byWR0 73 (omega arith) refl, (byWR0 49 (omega arith) refl, (byWR0 81 (omega arith) refl, (byWR0 97 (omega arith) refl, longer-awaited))))))
+
 each-awaited : Each Awaited sequences
 unfolding opened
 each-awaited =
-    (byWR0 1 (omega arith) refl, (byWR0 9 (omega arith) refl, (byWR0 17 (omega arith) refl, (byWR0 33 (omega arith) refl, (byWR0 65 (omega arith) refl, (byWR0 25 (omega arith) refl, (byWR0 41 (omega arith) refl, (byWR0 73 (omega arith) refl, (byWR0 49 (omega arith) refl, (byWR0 81 (omega arith) refl, (byWR0 97 (omega arith) refl, (byWR0 57 (omega arith) refl, (byWR0 89 (omega arith) refl, (byWR0 105 (omega arith) refl, (byWR0 113 (omega arith) refl, (byWR0 121 (omega arith) refl, (byWR1 0x44 (omega arith) refl, (byWR2 0x40 (omega arith) refl, (byTiming, (byWR4 0x85 (omega arith) refl, (byWR4 0x89 (omega arith) refl, (byWR4 0x8D (omega arith) refl, (byMaskCommand, tt)))))))))))))))))))))))
+    (byWR0 1 (omega arith) refl, (byWR0 9 (omega arith) refl, (byWR0 17 (omega arith) refl, (byWR0 33 (omega arith) refl, (byWR0 65 (omega arith) refl, pairs-awaited)))))
 
 listed-valid : (p : Pending) → Awaited p → validPending p ≡ true
 listed-valid _ (byWR0 byte b s) = wr0-valid byte
