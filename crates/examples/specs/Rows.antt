@@ -94,7 +94,7 @@ withCore c s = record { world = record { core = c; buffers = s .world .buffers }
 
 -- an answer with this number and this byte is right, if all was right before it
 abbrev pub answered : ℕ → ℕ → Seen → Answer (List ℕ) → Seen
-answered number byte r a = seen (every (r .right ∷ eqb (a .number) number ∷ eqb (a .byte) byte ∷ [])) (a .system)
+answered number byte r a = seen (every (r .right ∷ eqb (a .answered .number) number ∷ eqb (a .answered .byte) byte ∷ [])) (a .system)
 
 unfoldable pub sendAll : ℕ → List ℕ → Seen → Seen
 sendAll port [] r = r
@@ -132,7 +132,7 @@ perform (expectRefused port number) s = answered number 0 (seen true s) (read s 
 perform (clocks n) s = answered 0 0 (seen true s) (grant flat s n)
 perform (borrow m l n number) s =
     let a : Answer (List ℕ) = grant flat (withBuffers (replicate m 0) (replicate l 0) s) n in
-    seen (every (eqb (a .number) number ∷ eqb (a .byte) 0 ∷ []))
+    seen (every (eqb (a .answered .number) number ∷ eqb (a .answered .byte) 0 ∷ []))
     (record { world = record { core = a .system .world .core; buffers = s .world .buffers }; clocks = a .system .clocks })
 perform (counts bus held cpu) s =
     seen (every (eqb (s .clocks .bus) bus ∷ eqb (s .clocks .held) held ∷ eqb (s .clocks .cpu) cpu ∷ [])) s

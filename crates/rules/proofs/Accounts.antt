@@ -17,9 +17,9 @@ use Rattle.rules.specs.Readback.{readByte}
 use Rattle.rules.specs.Buffers.{Store, Buffers}
 use Rattle.rules.specs.World.{World, System, Note, step, note, stepCounted, clocked}
 use Rattle.rules.specs.Refusals.{accessRefusal, grantRefusal}
-use Rattle.rules.specs.Calls.{Reply, Answer, writeReply, readReply, beside, write, read, grantNumber, grant}
+use Rattle.rules.specs.Calls.{Reply, Answer, refused, unlessRefused, writeReply, readReply, beside, write, read, grantNumber, grant}
 use Rattle.rules.specs.Entries.{Outside, Entry, portWrite, portRead, clockGrant, otherGrant, outsideChange, besideBuffers, grantOther, enter, run, systemAtPowerOn}
-use Rattle.rules.specs.History.{Event, clockNoted, counterZeroed, Past, withCore, writePassed, clockPassed, clocksPassed, grantPassed, unlessRefused, noteEntry, history, pastAtPowerOn}
+use Rattle.rules.specs.History.{Event, clockNoted, counterZeroed, Past, withCore, writePassed, clockPassed, clocksPassed, grantPassed, notedUnless, noteEntry, history, pastAtPowerOn}
 use Rattle.rules.specs.Accounts.{ofKind, clocksNoted, bytesOf, bytesNoted, heldBefore, zeroedNoted, clocksAsked, clocksAccepted, numbersOf, Demand3}
 use Rattle.rules.specs.declared.Clocks.{Clocks}
 use Rattle.rules.proofs.Choice.{pick-cases, pick-both, pick-true, pick-false, pick-ap}
@@ -86,9 +86,9 @@ pastOf s es = record { world = s .world; sum = total (s .clocks); events = es }
 
 -- what one entry keeps, where it asks for some clocks and the history gives it this number
 pub record Step {M : Type 0} (asked : ℕ) (s : System M) (a : Answer M) (given : ℕ) (p : Past M) : Type 0 where
-  pub number : a .number ≡ given
+  pub number : a .answered .number ≡ given
   pub agree : Agree (a .system) p
-  pub sum : total (a .system .clocks) ≡ total (s .clocks) + pick (eqb (a .number) 0) asked 0
+  pub sum : total (a .system .clocks) ≡ total (s .clocks) + pick (eqb (a .answered .number) 0) asked 0
 
 -- an entry that asks for no clock, or is refused, adds none
 no-clocks : (t : Bool) (n : ℕ) → n ≡ n + pick t 0 0
@@ -145,8 +145,8 @@ module _ {M : Type 0} (σ : Store M) where
   as-before : (s : System M) (es : List Event) → Counts (s .clocks) es (s .world .core .block .counter) → Agree s (pastOf s es)
   as-before s es c = record { world = refl; sum = refl; counts = c }
 
-  write-step : (s : System M) (es : List Event) (port byte n : ℕ) → n ≡ accessRefusal (s .world .core) (total (s .clocks)) port → Counts (s .clocks) es (s .world .core .block .counter) → Step 0 s (write s port byte) n (unlessRefused n (writePassed port byte (pastOf s es)) (pastOf s es) .past)
-  unfolding writeReply unlessRefused
+  write-step : (s : System M) (es : List Event) (port byte n : ℕ) → n ≡ accessRefusal (s .world .core) (total (s .clocks)) port → Counts (s .clocks) es (s .world .core .block .counter) → Step 0 s (write s port byte) n (notedUnless n (writePassed port byte (pastOf s es)) (pastOf s es) .past)
+  unfolding writeReply unlessRefused notedUnless
   write-step s es port byte n e c =
       rw e
       (both-picked (λ (r : Reply) (q : Past M). Step 0 s (beside (s .world .buffers) r) (accessRefusal (s .world .core) (total (s .clocks)) port) q)
@@ -154,8 +154,8 @@ module _ {M : Type 0} (σ : Store M) where
       (λ d. record { number = sym (eqb-true _ _ d); agree = written-agrees s es port byte c; sum = no-clocks _ _ })
       (λ d. record { number = refl; agree = as-before s es c; sum = no-clocks _ _ }))
 
-  read-step : (s : System M) (es : List Event) (port n : ℕ) → n ≡ accessRefusal (s .world .core) (total (s .clocks)) port → Counts (s .clocks) es (s .world .core .block .counter) → Step 0 s (read s port) n (unlessRefused n (withCore (readByte (s .world .core) .core) (pastOf s es)) (pastOf s es) .past)
-  unfolding readReply unlessRefused
+  read-step : (s : System M) (es : List Event) (port n : ℕ) → n ≡ accessRefusal (s .world .core) (total (s .clocks)) port → Counts (s .clocks) es (s .world .core .block .counter) → Step 0 s (read s port) n (notedUnless n (withCore (readByte (s .world .core) .core) (pastOf s es)) (pastOf s es) .past)
+  unfolding readReply unlessRefused notedUnless
   read-step s es port n e c =
       rw e
       (both-picked (λ (r : Reply) (q : Past M). Step 0 s (beside (s .world .buffers) r) (accessRefusal (s .world .core) (total (s .clocks)) port) q)
@@ -176,8 +176,8 @@ module _ {M : Type 0} (σ : Store M) where
       let k = clocks-agree n s p (record { world = refl; counts = c }) in
       record { world = k .world; sum = clocked-total σ n s ∙ sym (clocks-sum n p); counts = k .counts }
 
-  own-step : (s : System M) (es : List Event) (n : ℕ) → Counts (s .clocks) es (s .world .core .block .counter) → Step n s (grant σ s n) (grantNumber σ s n) (unlessRefused (grantNumber σ s n) (grantPassed σ n (pastOf s es)) (pastOf s es) .past)
-  unfolding grant unlessRefused
+  own-step : (s : System M) (es : List Event) (n : ℕ) → Counts (s .clocks) es (s .world .core .block .counter) → Step n s (grant σ s n) (grantNumber σ s n) (notedUnless (grantNumber σ s n) (grantPassed σ n (pastOf s es)) (pastOf s es) .past)
+  unfolding grant notedUnless
   own-step s es n c =
       both-picked (λ (a : Answer M) (q : Past M). Step n s a (grantNumber σ s n) q) _ _ _ _ _
       (λ d. record { number = sym (eqb-true _ _ d); agree = granted-agrees s es n c; sum = clocked-total σ n s ∙ granted-clocks n _ })
@@ -189,24 +189,24 @@ module _ {M C : Type 0} (σ : Store M) (ω : Outside M C) where
   otherNumber s n b = grantRefusal σ (s .world .core) (total (s .clocks)) b n
 
   -- it is refused, and nothing changes
-  other-answer : (s : System M) (n : ℕ) (b : Buffers M) → (otherNumber s n b ≡ 0 → ⊥) → _≡_ {A = Answer M} (record { number = otherNumber s n b; byte = 0; system = s }) (grantOther σ ω s n b)
+  other-answer : (s : System M) (n : ℕ) (b : Buffers M) → (otherNumber s n b ≡ 0 → ⊥) → _≡_ {A = Answer M} (record { answered = refused (otherNumber s n b); system = s }) (grantOther σ ω s n b)
   other-answer s n b wrong =
-      ap (λ (a : Answer M). record { number = a .number; byte = a .byte; system = besideBuffers (s .world .buffers) (a .system) })
+      ap (λ (a : Answer M). record { answered = a .answered; system = besideBuffers (s .world .buffers) (a .system) })
       (grant-refuses σ (besideBuffers b s) n (otherNumber s n b) refl wrong)
 
-  other-step : (s : System M) (es : List Event) (n : ℕ) (b : Buffers M) → (otherNumber s n b ≡ 0 → ⊥) → Counts (s .clocks) es (s .world .core .block .counter) → Step n s (grantOther σ ω s n b) (otherNumber s n b) (unlessRefused (otherNumber s n b) (grantPassed σ n (pastOf s es)) (pastOf s es) .past)
-  unfolding unlessRefused
+  other-step : (s : System M) (es : List Event) (n : ℕ) (b : Buffers M) → (otherNumber s n b ≡ 0 → ⊥) → Counts (s .clocks) es (s .world .core .block .counter) → Step n s (grantOther σ ω s n b) (otherNumber s n b) (notedUnless (otherNumber s n b) (grantPassed σ n (pastOf s es)) (pastOf s es) .past)
+  unfolding notedUnless
   other-step s es n b wrong c =
-      subst (λ (a : Answer M). Step n s a (otherNumber s n b) (unlessRefused (otherNumber s n b) (grantPassed σ n (pastOf s es)) (pastOf s es) .past))
+      subst (λ (a : Answer M). Step n s a (otherNumber s n b) (notedUnless (otherNumber s n b) (grantPassed σ n (pastOf s es)) (pastOf s es) .past))
       (other-answer s n b wrong)
-      (subst (λ (p : Past M). Step n s (record { number = otherNumber s n b; byte = 0; system = s }) (otherNumber s n b) p)
+      (subst (λ (p : Past M). Step n s (record { answered = refused (otherNumber s n b); system = s }) (otherNumber s n b) p)
       (sym (pick-false _ _ _ (ne-eqb _ _ wrong)))
       (record { number = refl; agree = as-before σ s es c; sum = refused-clocks (otherNumber s n b) n _ wrong }))
 
   -- ---- one entry
 
   entry-literal : (e : Entry σ C) (s : System M) (es : List Event) → Counts (s .clocks) es (s .world .core .block .counter) → Step (clocksAsked e) s (enter σ ω e s) (noteEntry σ ω e (pastOf s es) .number) (noteEntry σ ω e (pastOf s es) .past)
-  unfolding unlessRefused
+  unfolding notedUnless
   entry-literal (portWrite port byte) s es c = write-step σ s es port byte _ refl c
   entry-literal (portRead port) s es c = read-step σ s es port _ refl c
   entry-literal (clockGrant n) s es c = own-step σ s es n c

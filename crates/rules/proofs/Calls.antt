@@ -11,11 +11,11 @@ use Rattle.rules.specs.Choice.{Test, test, firstHit}
 use Rattle.rules.specs.Slots.{busHeld}
 use Rattle.rules.specs.PowerOn.{powerOn, noClocks}
 use Rattle.rules.specs.Validity.{valid, total, most64}
-use Rattle.rules.specs.Facts.{ValidParts, InRange}
+use Rattle.rules.specs.Facts.{ValidParts, InRange, Kept}
 use Rattle.rules.specs.Buffers.{Store, flat, Buffers}
 use Rattle.rules.specs.World.{System, clocked}
 use Rattle.rules.specs.Refusals.{wrongPort, accessRefusal, lentRefusal, grantRefusal}
-use Rattle.rules.specs.Calls.{Reply, Answer, writeReply, readReply, write, read, grantNumber, grant}
+use Rattle.rules.specs.Calls.{Reply, Answer, accepted, refused, unlessRefused, writeReply, readReply, write, read, grantNumber, grant}
 use Rattle.rules.specs.Keeping.{ValidDevice, StaysValid, StaysValidByTest, HandsBack}
 use Rattle.rules.specs.Opened.{opened}
 use Rattle.rules.specs.declared.Clocks.{Clocks}
@@ -115,34 +115,37 @@ power-on-valid =
       sum = omega arith;
     }
 
+-- ---- a write or a read, unless it is refused
+
+unless-valid : (number byte : ℕ) (next c : Core) (k : Clocks) → (number ≡ 0 → Kept next) → ValidDevice c k → ValidDevice (unlessRefused number byte next c k .core) (unlessRefused number byte next c k .clocks)
+unfolding unlessRefused
+unless-valid number byte next c k f s =
+    pick-cases (λ (r : Reply). ValidDevice (r .core) (r .clocks)) _ _ _
+    (λ e. record { core = f (eqb-true _ _ e); sum = s .sum }) (λ e. s)
+
+pub unless-number : (number byte : ℕ) (next c : Core) (k : Clocks) → unlessRefused number byte next c k .answered .number ≡ number
+unfolding unlessRefused
+unless-number number byte next c k =
+    pick-cases (λ (r : Reply). r .answered .number ≡ number) _ _ _ (λ e. sym (eqb-true _ _ e)) (λ e. refl)
+
+unless-refused : (number byte : ℕ) (next c : Core) (k : Clocks) → (unlessRefused number byte next c k .answered .number ≡ 0 → ⊥) → unlessRefused number byte next c k ≡ record { answered = record { number = number; byte = 0 }; core = c; clocks = k }
+unfolding unlessRefused
+unless-refused number byte next c k =
+    pick-cases
+    (λ (r : Reply). (r .answered .number ≡ 0 → ⊥) → r ≡ record { answered = record { number = number; byte = 0 }; core = c; clocks = k })
+    _ _ _ (λ e n. absurd (n refl)) (λ e n. refl)
+
 write-valid : (c : Core) (k : Clocks) (port byte : ℕ) → byte < 256 → ValidDevice c k → ValidDevice (writeReply c k port byte .core) (writeReply c k port byte .clocks)
 unfolding writeReply
 write-valid c k port byte h s =
-    pick-cases (λ (r : Reply). ValidDevice (r .core) (r .clocks)) _ _ _
-    (λ e. record { core = write-kept port byte c h (access c (total k) port (eqb-true _ _ e) .free) (s .core); sum = s .sum })
-    (λ e. s)
+    unless-valid _ _ _ c k (λ e. write-kept port byte c h (access c (total k) port e .free) (s .core)) s
 
 read-valid : (c : Core) (k : Clocks) (port : ℕ) → ValidDevice c k → ValidDevice (readReply c k port .core) (readReply c k port .clocks)
 unfolding readReply
-read-valid c k port s =
-    pick-cases (λ (r : Reply). ValidDevice (r .core) (r .clocks)) _ _ _ (λ e. record { core = read-kept c (s .core); sum = s .sum }) (λ e. s)
+read-valid c k port s = unless-valid _ _ _ c k (λ e. read-kept c (s .core)) s
 
 abbrev pub ValidSystem : {M : Type 0} → System M → Type 0
 ValidSystem s = ValidDevice (s .world .core) (s .clocks)
-
--- ---- a refused call hands everything back
-
-write-refused : (c : Core) (k : Clocks) (port byte : ℕ) → (writeReply c k port byte .number ≡ 0 → ⊥) → writeReply c k port byte ≡ record { number = accessRefusal c (total k) port; byte = 0; core = c; clocks = k }
-unfolding writeReply
-write-refused c k port byte =
-    pick-cases (λ (r : Reply). (r .number ≡ 0 → ⊥) → r ≡ record { number = accessRefusal c (total k) port; byte = 0; core = c; clocks = k }) _ _ _
-    (λ e n. absurd (n refl)) (λ e n. refl)
-
-read-refused : (c : Core) (k : Clocks) (port : ℕ) → (readReply c k port .number ≡ 0 → ⊥) → readReply c k port ≡ record { number = accessRefusal c (total k) port; byte = 0; core = c; clocks = k }
-unfolding readReply
-read-refused c k port =
-    pick-cases (λ (r : Reply). (r .number ≡ 0 → ⊥) → r ≡ record { number = accessRefusal c (total k) port; byte = 0; core = c; clocks = k }) _ _ _
-    (λ e n. absurd (n refl)) (λ e n. refl)
 
 module _ {M : Type 0} (σ : Store M) where
   grant-valid : (s : System M) (n : ℕ) → ValidSystem s → ValidSystem (grant σ s n .system)
@@ -154,25 +157,34 @@ module _ {M : Type 0} (σ : Store M) where
       record { core = clocked-kept σ n s (h .core); sum = (let t = clocked-total σ n s in omega (arith, g .room)) })
       (λ e. h)
 
-  grant-refused : (s : System M) (n : ℕ) → (grant σ s n .number ≡ 0 → ⊥) → grant σ s n ≡ record { number = grantNumber σ s n; byte = 0; system = s }
+  -- a refused one hands everything back
+  grant-refused : (s : System M) (n : ℕ) → (grant σ s n .answered .number ≡ 0 → ⊥) → grant σ s n ≡ record { answered = record { number = grantNumber σ s n; byte = 0 }; system = s }
   unfolding grant
   grant-refused s n =
       pick-cases
-      (λ (a : Answer M). (a .number ≡ 0 → ⊥) → a ≡ record { number = grantNumber σ s n; byte = 0; system = s })
+      (λ (a : Answer M). (a .answered .number ≡ 0 → ⊥) → a ≡ record { answered = record { number = grantNumber σ s n; byte = 0 }; system = s })
       _ _ _ (λ e n. absurd (n refl)) (λ e n. refl)
+
+write-refused : (c : Core) (k : Clocks) (port byte : ℕ) → (writeReply c k port byte .answered .number ≡ 0 → ⊥) → writeReply c k port byte ≡ record { answered = record { number = accessRefusal c (total k) port; byte = 0 }; core = c; clocks = k }
+unfolding writeReply
+write-refused c k port byte = unless-refused _ _ _ c k
+
+read-refused : (c : Core) (k : Clocks) (port : ℕ) → (readReply c k port .answered .number ≡ 0 → ⊥) → readReply c k port ≡ record { answered = record { number = accessRefusal c (total k) port; byte = 0 }; core = c; clocks = k }
+unfolding readReply
+read-refused c k port = unless-refused _ _ _ c k
 
 -- ---- a grant by its number
 
 module _ {M : Type 0} (σ : Store M) where
-  pub grant-accepts : (s t : System M) (n : ℕ) → grantNumber σ s n ≡ 0 → t ≡ clocked σ n s → _≡_ {A = Answer M} (record { number = 0; byte = 0; system = t }) (grant σ s n)
+  pub grant-accepts : (s t : System M) (n : ℕ) → grantNumber σ s n ≡ 0 → t ≡ clocked σ n s → _≡_ {A = Answer M} (record { answered = accepted 0; system = t }) (grant σ s n)
   unfolding grant
-  grant-accepts s t n e h = sym (pick-true _ _ _ (eq-eqb _ _ e) ∙ (λ i. record { number = 0; byte = 0; system = sym h i }))
+  grant-accepts s t n e h = sym (pick-true _ _ _ (eq-eqb _ _ e) ∙ (λ i. record { answered = accepted 0; system = sym h i }))
 
-  pub grant-refuses : (s : System M) (n k : ℕ) → grantNumber σ s n ≡ k → (k ≡ 0 → ⊥) → _≡_ {A = Answer M} (record { number = k; byte = 0; system = s }) (grant σ s n)
+  pub grant-refuses : (s : System M) (n k : ℕ) → grantNumber σ s n ≡ k → (k ≡ 0 → ⊥) → _≡_ {A = Answer M} (record { answered = refused k; system = s }) (grant σ s n)
   unfolding grant
   grant-refuses s n k e h =
       sym
-      (pick-false _ _ _ (ne-eqb _ _ (λ z. h (sym e ∙ z))) ∙ (λ i. record { number = e i; byte = 0; system = s }))
+      (pick-false _ _ _ (ne-eqb _ _ (λ z. h (sym e ∙ z))) ∙ (λ i. record { answered = refused (e i); system = s }))
 
 -- a flat memory that is not refused has 65,536 bytes
 pub flat-memory : (m : List ℕ) → flat .refusal m ≡ 0 → length m ≡ 65536

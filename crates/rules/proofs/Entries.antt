@@ -7,7 +7,8 @@ use lib.ListN.{set, length-set}
 use Rattle.rules.specs.Bytes.{AreBytes}
 use Rattle.rules.specs.Buffers.{Store}
 use Rattle.rules.specs.World.{System}
-use Rattle.rules.specs.Entries.{Outside, poked, Entry, portWrite, portRead, clockGrant, otherGrant, outsideChange, bytesWritten, Answered, Run, enter, run, systemAtPowerOn, PokesKeepLength}
+use Rattle.rules.specs.Calls.{Answered}
+use Rattle.rules.specs.Entries.{Outside, poked, Entry, portWrite, portRead, clockGrant, otherGrant, outsideChange, bytesWritten, Run, enter, run, systemAtPowerOn, PokesKeepLength}
 use Rattle.rules.proofs.Calls.{ValidSystem, stays-valid}
 
 module _ {M C : Type 0} (σ : Store M) (ω : Outside M C) where
@@ -35,7 +36,7 @@ module _ {M C : Type 0} (σ : Store M) (ω : Outside M C) where
   run-behind [] ys s = refl
   run-behind (x ∷ xs) ys s =
       ap
-      (λ (r : Run M). record { answers = record { number = enter σ ω x s .number; byte = enter σ ω x s .byte } ∷ r .answers; system = r .system })
+      (λ (r : Run M). record { answers = enter σ ω x s .answered ∷ r .answers; system = r .system })
       (run-behind xs ys (enter σ ω x s .system))
 
 pub pokes-keep-length : PokesKeepLength

@@ -17,7 +17,7 @@ use Rattle.rules.specs.Buffers.{Store, lengthRefusal, flat, Buffers}
 use Rattle.rules.specs.World.{World, System}
 use Rattle.rules.specs.Refusals.{accessRefusal, grantRefusal}
 use Rattle.rules.specs.Entries.{Outside, Poke, flatOutside, Entry, portWrite, portRead, clockGrant, otherGrant, outsideChange, bytesWritten, enter, run}
-use Rattle.rules.specs.History.{Past, writePassed, unlessRefused, clocksPassed, noteEntry, history}
+use Rattle.rules.specs.History.{Past, writePassed, notedUnless, clocksPassed, noteEntry, history}
 use Rattle.rules.specs.Accounts.{heldBefore}
 use Rattle.rules.specs.Reached.{CountersNoted, EveryReached, NoneIs, LendsOther, OwnServe, AnswersReached}
 use Rattle.rules.specs.declared.Core.{Core}
@@ -65,7 +65,7 @@ module _ {M : Type 0} (σ : Store M) where
 module _ {M C : Type 0} (σ : Store M) (ω : Outside M C) where
   -- one entry
   entry-noted : (e : Entry σ C) (p : Past M) → Kept (p .world .core) → CountersNoted (p .events) → CountersNoted (noteEntry σ ω e p .past .events)
-  unfolding unlessRefused writePassed CountersNoted
+  unfolding notedUnless writePassed CountersNoted
   entry-noted (portWrite port byte) p k h =
       pick-both (λ (q : Past M). CountersNoted (q .events)) _ _ _
       (pick-both (λ (q : Past M). CountersNoted (q .events)) _ _ _ (k .valid .counter, h) h) h
@@ -103,7 +103,7 @@ not-number : (n k : ℕ) → eqb n k ≡ false → n ≡ k → ⊥
 not-number n k e h = clash (sym e ∙ eq-eqb _ _ h)
 
 -- an entry is not answered with 1, where the device is valid
-entry-answered : (e : Entry flat (List Poke)) (s : System (List ℕ)) → ValidSystem s → enter flat flatOutside e s .number ≡ 1 → ⊥
+entry-answered : (e : Entry flat (List Poke)) (s : System (List ℕ)) → ValidSystem s → enter flat flatOutside e s .answered .number ≡ 1 → ⊥
 entry-answered (portWrite port byte) s v h =
     not-number _ 1 (access-exact _ _ port .one ∙ ap not (device-valid _ _ v)) (sym (refusals-exact .write _ _ port byte) ∙ h)
 entry-answered (portRead port) s v h =
@@ -150,7 +150,7 @@ grant-not-five c sum b n l e =
     clash (sym (not-true _ (h .1 .1 .0)) ∙ eq-eqb _ _ l)
 
 -- 4 and 5 are answered to a grant that lends other buffers
-entry-four : (e : Entry flat (List Poke)) (s : System (List ℕ)) → Own (s .world .buffers) → enter flat flatOutside e s .number ≡ 4 → LendsOther e
+entry-four : (e : Entry flat (List Poke)) (s : System (List ℕ)) → Own (s .world .buffers) → enter flat flatOutside e s .answered .number ≡ 4 → LendsOther e
 entry-four (portWrite port byte) s o h = access-small _ _ port _ 4 (refusals-exact .write _ _ port byte) h (omega arith)
 entry-four (portRead port) s o h = access-small _ _ port _ 4 (refusals-exact .read _ _ port) h (omega arith)
 entry-four (clockGrant n) s o h =
@@ -158,7 +158,7 @@ entry-four (clockGrant n) s o h =
 entry-four (otherGrant n b wrong) s o h = tt
 entry-four (outsideChange x) s o h = absurd (omega (arith, h))
 
-entry-five : (e : Entry flat (List Poke)) (s : System (List ℕ)) → Own (s .world .buffers) → enter flat flatOutside e s .number ≡ 5 → LendsOther e
+entry-five : (e : Entry flat (List Poke)) (s : System (List ℕ)) → Own (s .world .buffers) → enter flat flatOutside e s .answered .number ≡ 5 → LendsOther e
 entry-five (portWrite port byte) s o h = access-small _ _ port _ 5 (refusals-exact .write _ _ port byte) h (omega arith)
 entry-five (portRead port) s o h = access-small _ _ port _ 5 (refusals-exact .read _ _ port) h (omega arith)
 entry-five (clockGrant n) s o h = grant-not-five _ _ _ n (o .latches) (sym (refusals-exact .granted _ n) ∙ h)

@@ -12,11 +12,12 @@ use Rattle.rules.specs.Validity.{total}
 use Rattle.rules.specs.Buffers.{flat, Buffers}
 use Rattle.rules.specs.World.{System}
 use Rattle.rules.specs.Refusals.{accessRefusal, lentRefusal, grantRefusal}
-use Rattle.rules.specs.Calls.{Reply, Answer, writeReply, readReply, grantNumber, grant}
+use Rattle.rules.specs.Calls.{Answer, writeReply, readReply, grantNumber, grant}
 use Rattle.rules.specs.Exactly.{AccessExact, GrantExact, RefusalsExact}
 use Rattle.rules.specs.declared.Clocks.{Clocks}
 use Rattle.rules.specs.declared.Core.{Core}
 use Rattle.rules.proofs.Choice.{pick-cases}
+use Rattle.rules.proofs.Calls.{unless-number}
 
 -- the number of an access by its three tests: valid, a wrong port, the bus held
 record ThreeTests (v w h : Bool) (number : ℕ) : Type 0 where
@@ -80,20 +81,18 @@ grant-exact c sum b n =
     }
 
 -- each call answers with its number
-write-number : (c : Core) (k : Clocks) (port byte : ℕ) → writeReply c k port byte .number ≡ accessRefusal c (total k) port
+write-number : (c : Core) (k : Clocks) (port byte : ℕ) → writeReply c k port byte .answered .number ≡ accessRefusal c (total k) port
 unfolding writeReply
-write-number c k port byte =
-    pick-cases (λ (r : Reply). r .number ≡ accessRefusal c (total k) port) _ _ _ (λ e. sym (eqb-true _ _ e)) (λ e. refl)
+write-number c k port byte = unless-number _ _ _ c k
 
-read-number : (c : Core) (k : Clocks) (port : ℕ) → readReply c k port .number ≡ accessRefusal c (total k) port
+read-number : (c : Core) (k : Clocks) (port : ℕ) → readReply c k port .answered .number ≡ accessRefusal c (total k) port
 unfolding readReply
-read-number c k port =
-    pick-cases (λ (r : Reply). r .number ≡ accessRefusal c (total k) port) _ _ _ (λ e. sym (eqb-true _ _ e)) (λ e. refl)
+read-number c k port = unless-number _ _ _ c k
 
-grant-number : (s : System (List ℕ)) (n : ℕ) → grant flat s n .number ≡ grantNumber flat s n
+grant-number : (s : System (List ℕ)) (n : ℕ) → grant flat s n .answered .number ≡ grantNumber flat s n
 unfolding grant
 grant-number s n =
-    pick-cases (λ (a : Answer (List ℕ)). a .number ≡ grantNumber flat s n) _ _ _ (λ e. sym (eqb-true _ _ e)) (λ e. refl)
+    pick-cases (λ (a : Answer (List ℕ)). a .answered .number ≡ grantNumber flat s n) _ _ _ (λ e. sym (eqb-true _ _ e)) (λ e. refl)
 
 pub refusals-exact : RefusalsExact
 refusals-exact =

@@ -71,17 +71,17 @@ module _ {M : Type 0} (σ : Store M) where
       let e = grantable σ _ _ _ n (granted-fewer s n (sumOf ns) g) in
       let a = grant-accepts σ s (clocked σ n s) n e refl in
       let v = valid-device (s .world .core) (s .clocks) r (g .state) in (
-        sym (ap (λ (x : Answer M). x .number) a),
+        sym (ap (λ (x : Answer M). x .answered .number) a),
         subst (λ (x : Answer M). AcceptedInTurn σ ns (x .system) (clocked σ (n + sumOf ns) s)) a
             (subst (λ (t : System M). AcceptedInTurn σ ns (clocked σ n s) t) (sym (clocked-add σ n (sumOf ns) s))
             (accepted-in-turn ns (clocked σ n s) (clocked-kept σ n s (v .core) .range) (granted-rest s n (sumOf ns) r g))),
       )
 
   -- an accepted grant has no refusal number, and ends after its clocks
-  pub accepted-number : (s : System M) (n : ℕ) → grant σ s n .number ≡ 0 → grantNumber σ s n ≡ 0
+  pub accepted-number : (s : System M) (n : ℕ) → grant σ s n .answered .number ≡ 0 → grantNumber σ s n ≡ 0
   unfolding grant
   accepted-number s n =
-      pick-cases (λ (a : Answer M). a .number ≡ 0 → grantNumber σ s n ≡ 0) _ _ _ (λ e h. eqb-true _ _ e) (λ e h. h)
+      pick-cases (λ (a : Answer M). a .answered .number ≡ 0 → grantNumber σ s n ≡ 0) _ _ _ (λ e h. eqb-true _ _ e) (λ e h. h)
 
   pub grant-splits : Splits σ
   grant-splits s r n e ns q =

@@ -10,9 +10,9 @@ use lib.ListN.{length}
 use borrow.Author.Tests.{eq-eqb}
 use Rattle.rules.specs.Buffers.{Store}
 use Rattle.rules.specs.World.{System}
-use Rattle.rules.specs.Calls.{Answer, grantNumber, grant}
-use Rattle.rules.specs.Entries.{Outside, Entry, clockGrant, Answered, Run, enter, run, systemAtPowerOn}
-use Rattle.rules.specs.History.{Past, History, unlessRefused, clockPassed, clocksPassed, grantPassed, noteEntry, history, pastAtPowerOn}
+use Rattle.rules.specs.Calls.{Answered, Answer, grantNumber, grant}
+use Rattle.rules.specs.Entries.{Outside, Entry, clockGrant, Run, enter, run, systemAtPowerOn}
+use Rattle.rules.specs.History.{Past, History, notedUnless, clockPassed, clocksPassed, grantPassed, noteEntry, history, pastAtPowerOn}
 use Rattle.rules.specs.Splitting.{sumOf, AcceptedInTurn, grants, acceptedAnswers, SplitsWithin}
 use Rattle.rules.proofs.Choice.{pick-true, pick-both}
 use Rattle.rules.proofs.Entries.{reached-valid, run-behind}
@@ -28,9 +28,9 @@ module _ {M C : Type 0} (σ : Store M) (ω : Outside M C) where
   answers-each [] s = refl
   answers-each (e ∷ es) s = ap suc (answers-each es (enter σ ω e s .system))
 
-  grant-byte : (s : System M) (n : ℕ) → grant σ s n .byte ≡ 0
+  grant-byte : (s : System M) (n : ℕ) → grant σ s n .answered .byte ≡ 0
   unfolding grant
-  grant-byte s n = pick-both (λ (a : Answer M). a .byte ≡ 0) _ _ _ refl refl
+  grant-byte s n = pick-both (λ (a : Answer M). a .answered .byte ≡ 0) _ _ _ refl refl
 
   -- grants that are accepted in turn
   grants-run : (ns : List ℕ) (s t : System M) → AcceptedInTurn σ ns s t → run σ ω (grants ns) s ≡ record { answers = acceptedAnswers ns; system = t }
@@ -84,8 +84,8 @@ module _ {M C : Type 0} (σ : Store M) (ω : Outside M C) where
   granted-none p = λ i. withSum (add-zero (p .sum) i) p
 
   -- an accepted grant in the history of a run
-  grant-noted : (n : ℕ) (s : System M) (p : Past M) → Agree s p → grant σ s n .number ≡ 0 → noteEntry σ ω (clockGrant n) p .past ≡ grantPassed σ n p
-  unfolding unlessRefused
+  grant-noted : (n : ℕ) (s : System M) (p : Past M) → Agree s p → grant σ s n .answered .number ≡ 0 → noteEntry σ ω (clockGrant n) p .past ≡ grantPassed σ n p
+  unfolding notedUnless
   grant-noted n s p a e = pick-true _ _ _ (eq-eqb _ 0 (sym (entry-step σ ω (clockGrant n) s p a .number) ∙ e))
 
   -- grants that are accepted in turn

@@ -12,7 +12,8 @@ use Rattle.rules.specs.Validity.{total}
 use Rattle.rules.specs.Clock.{Kind, busClock, heldClock, cpuClock}
 use Rattle.rules.specs.Buffers.{Store}
 use Rattle.rules.specs.World.{Move}
-use Rattle.rules.specs.Entries.{Outside, Entry, portWrite, portRead, clockGrant, otherGrant, outsideChange, bytesWritten, Answered, Run, run, systemAtPowerOn}
+use Rattle.rules.specs.Calls.{Answered}
+use Rattle.rules.specs.Entries.{Outside, Entry, portWrite, portRead, clockGrant, otherGrant, outsideChange, bytesWritten, Run, run, systemAtPowerOn}
 use Rattle.rules.specs.History.{Event, clockNoted, counterZeroed, History, history, pastAtPowerOn}
 use Rattle.rules.specs.Splitting.{SplitsAt}
 

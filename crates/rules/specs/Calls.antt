@@ -12,48 +12,48 @@ use Rattle.rules.specs.Refusals.{accessRefusal, grantRefusal}
 use Rattle.rules.specs.declared.Clocks.{Clocks}
 use Rattle.rules.specs.declared.Core.{Core}
 
--- the answer to a port write or a port read: number, byte (0 for a write and for a refused read), core and clock counts
-pub record Reply : Type 0 where
+-- what a call is answered with: its number, and a byte, 0 for all but an accepted read
+pub record Answered : Type 0 where
   pub number : ℕ
   pub byte : ℕ
+
+-- the answer to a port write or a port read, and core and clock counts after it
+pub record Reply : Type 0 where
+  pub answered : Answered
   pub core : Core
   pub clocks : Clocks
 
--- the answer to any call over memory M: number, byte, core, clock counts and buffers
+-- the answer to any call over memory M, and the system after it
 pub record Answer (M : Type 0) : Type 0 where
-  pub number : ℕ
-  pub byte : ℕ
+  pub answered : Answered
   pub system : System M
 
--- a refused call: its number, no byte, everything as it came
-abbrev pub refused : ℕ → Core → Clocks → Reply
-refused number c k = record { number = number; byte = 0; core = c; clocks = k }
+-- accepted with a byte, and refused with a number
+abbrev pub accepted : ℕ → Answered
+accepted byte = record { number = 0; byte = byte }
 
--- an accepted one
-abbrev pub accepted : ℕ → Core → Clocks → Reply
-accepted byte c k = record { number = 0; byte = byte; core = c; clocks = k }
+abbrev pub refused : ℕ → Answered
+refused number = record { number = number; byte = 0 }
 
--- a port write
+-- a port write or a port read: unless it is refused, it gives this byte and leaves the core so; a refused one leaves
+-- everything as it came
+unfoldable pub unlessRefused : ℕ → ℕ → Core → Core → Clocks → Reply
+unlessRefused number byte next c k =
+    pick (eqb number 0)
+    (record { answered = accepted byte; core = next; clocks = k })
+    (record { answered = refused number; core = c; clocks = k })
+
 unfoldable pub writeReply : Core → Clocks → ℕ → ℕ → Reply
-writeReply c k port byte =
-    pick (eqb (accessRefusal c (total k) port) 0) (accepted 0 (written port byte c) k) (refused (accessRefusal c (total k) port) c k)
+writeReply c k port byte = unlessRefused (accessRefusal c (total k) port) 0 (written port byte c) c k
 
--- a port read
 unfoldable pub readReply : Core → Clocks → ℕ → Reply
-readReply c k port =
-    pick (eqb (accessRefusal c (total k) port) 0)
-    (accepted (readByte c .byte) (readByte c .core) k)
-    (refused (accessRefusal c (total k) port) c k)
+readReply c k port = unlessRefused (accessRefusal c (total k) port) (readByte c .byte) (readByte c .core) c k
 
 module _ {M : Type 0} where
   -- a reply beside buffers that the call does not touch
   abbrev pub beside : Buffers M → Reply → Answer M
   beside b r =
-      record {
-        number = r .number;
-        byte = r .byte;
-        system = record { world = record { core = r .core; buffers = b }; clocks = r .clocks };
-      }
+      record { answered = r .answered; system = record { world = record { core = r .core; buffers = b }; clocks = r .clocks } }
 
   abbrev pub write : System M → ℕ → ℕ → Answer M
   write s port byte = beside (s .world .buffers) (writeReply (s .world .core) (s .clocks) port byte)
@@ -70,5 +70,5 @@ module _ {M : Type 0} (σ : Store M) where
   unfoldable pub grant : System M → ℕ → Answer M
   grant s n =
       pick (eqb (grantNumber s n) 0)
-      (record { number = 0; byte = 0; system = clocked σ n s })
-      (record { number = grantNumber s n; byte = 0; system = s })
+      (record { answered = accepted 0; system = clocked σ n s })
+      (record { answered = refused (grantNumber s n); system = s })

@@ -7,7 +7,7 @@ use lib.ListN.{length, set}
 use Rattle.rules.specs.PowerOn.{powerOn, noClocks}
 use Rattle.rules.specs.Buffers.{Store, Buffers}
 use Rattle.rules.specs.World.{System}
-use Rattle.rules.specs.Calls.{Answer, write, read, grant}
+use Rattle.rules.specs.Calls.{Answered, Answer, accepted, write, read, grant}
 
 -- the changes of a memory from outside: each kind of change, and what it makes of the memory
 pub record Outside (M C : Type 0) : Type 0 where
@@ -49,11 +49,6 @@ bytesWritten (clockGrant n ∷ es) = bytesWritten es
 bytesWritten (otherGrant n b wrong ∷ es) = bytesWritten es
 bytesWritten (outsideChange x ∷ es) = bytesWritten es
 
--- what an entry is answered with; an outside change, with 0
-pub record Answered : Type 0 where
-  pub number : ℕ
-  pub byte : ℕ
-
 -- the answers to a list's entries, in order, and the system after them
 pub record Run (M : Type 0) : Type 0 where
   pub answers : List Answered
@@ -68,27 +63,27 @@ module _ {M C : Type 0} (σ : Store M) (ω : Outside M C) where
   abbrev pub grantOther : System M → ℕ → Buffers M → Answer M
   grantOther s n b =
       let a : Answer M = grant σ (besideBuffers b s) n in
-      record { number = a .number; byte = a .byte; system = besideBuffers (s .world .buffers) (a .system) }
+      record { answered = a .answered; system = besideBuffers (s .world .buffers) (a .system) }
 
   -- the memory changed from outside; the latches stay
   abbrev pub changedOutside : C → System M → System M
   changedOutside x s =
       besideBuffers (record { memory = ω .change x (s .world .buffers .memory); latches = s .world .buffers .latches }) s
 
-  -- one entry, by the calls' own definitions
+  -- one entry, by the calls' own definitions; an outside change is answered with 0
   abbrev pub enter : Entry σ C → System M → Answer M
   enter (portWrite port byte) s = write s port byte
   enter (portRead port) s = read s port
   enter (clockGrant n) s = grant σ s n
   enter (otherGrant n b wrong) s = grantOther s n b
-  enter (outsideChange x) s = record { number = 0; byte = 0; system = changedOutside x s }
+  enter (outsideChange x) s = record { answered = accepted 0; system = changedOutside x s }
 
   -- a list of entries
   unfoldable pub run : List (Entry σ C) → System M → Run M
   run [] s = record { answers = []; system = s }
   run (e ∷ es) s =
       record {
-        answers = record { number = enter e s .number; byte = enter e s .byte } ∷ run es (enter e s .system) .answers;
+        answers = enter e s .answered ∷ run es (enter e s .system) .answers;
         system = run es (enter e s .system) .system;
       }
 

@@ -49,9 +49,9 @@ pub record GrantExact (c : Core) (sum : ℕ) (b : Buffers (List ℕ)) (n : ℕ) 
 
 -- each call answers with that number
 pub record RefusalsExact : Type 0 where
-  pub write : (c : Core) (k : Clocks) (port byte : ℕ) → writeReply c k port byte .number ≡ accessRefusal c (total k) port
-  pub read : (c : Core) (k : Clocks) (port : ℕ) → readReply c k port .number ≡ accessRefusal c (total k) port
-  pub granted : (s : System (List ℕ)) (n : ℕ) → grant flat s n .number ≡ grantNumber flat s n
+  pub write : (c : Core) (k : Clocks) (port byte : ℕ) → writeReply c k port byte .answered .number ≡ accessRefusal c (total k) port
+  pub read : (c : Core) (k : Clocks) (port : ℕ) → readReply c k port .answered .number ≡ accessRefusal c (total k) port
+  pub granted : (s : System (List ℕ)) (n : ℕ) → grant flat s n .answered .number ≡ grantNumber flat s n
   pub access : (c : Core) (sum port : ℕ) → AccessExact c sum port
   pub grants : (c : Core) (sum : ℕ) (b : Buffers (List ℕ)) (n : ℕ) → GrantExact c sum b n
 

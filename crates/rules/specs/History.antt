@@ -58,8 +58,8 @@ module _ {M : Type 0} where
       (withCore (written port byte (p .world .core)) p)
 
   -- a refused call changes and notes nothing
-  unfoldable pub unlessRefused : ℕ → Past M → Past M → EntryNoted M
-  unlessRefused number accepted p = record { number = number; past = pick (eqb number 0) accepted p }
+  unfoldable pub notedUnless : ℕ → Past M → Past M → EntryNoted M
+  notedUnless number accepted p = record { number = number; past = pick (eqb number 0) accepted p }
 
 module _ {M : Type 0} (σ : Store M) where
   -- one clock, noted
@@ -93,13 +93,13 @@ module _ {M C : Type 0} (σ : Store M) (ω : Outside M C) where
   -- one entry; refusal 6 is judged by the sum
   abbrev pub noteEntry : Entry σ C → Past M → EntryNoted M
   noteEntry (portWrite port byte) p =
-      unlessRefused (accessRefusal (p .world .core) (p .sum) port) (writePassed port byte p) p
+      notedUnless (accessRefusal (p .world .core) (p .sum) port) (writePassed port byte p) p
   noteEntry (portRead port) p =
-      unlessRefused (accessRefusal (p .world .core) (p .sum) port) (withCore (readByte (p .world .core) .core) p) p
+      notedUnless (accessRefusal (p .world .core) (p .sum) port) (withCore (readByte (p .world .core) .core) p) p
   noteEntry (clockGrant n) p =
-      unlessRefused (grantRefusal σ (p .world .core) (p .sum) (p .world .buffers) n) (grantPassed σ n p) p
+      notedUnless (grantRefusal σ (p .world .core) (p .sum) (p .world .buffers) n) (grantPassed σ n p) p
   noteEntry (otherGrant n b wrong) p =
-      unlessRefused (grantRefusal σ (p .world .core) (p .sum) b n) (grantPassed σ n p) p
+      notedUnless (grantRefusal σ (p .world .core) (p .sum) b n) (grantPassed σ n p) p
   noteEntry (outsideChange x) p = record { number = 0; past = changePassed x p }
 
   -- a list of entries

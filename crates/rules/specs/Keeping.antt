@@ -38,6 +38,6 @@ pub record StaysValidByTest {M : Type 0} (σ : Store M) : Type 0 where
 
 -- a refused call answers its number, no byte, and all that it was handed
 pub record HandsBack {M : Type 0} (σ : Store M) : Type 0 where
-  pub write : (c : Core) (k : Clocks) (port byte : ℕ) → (writeReply c k port byte .number ≡ 0 → ⊥) → writeReply c k port byte ≡ record { number = accessRefusal c (total k) port; byte = 0; core = c; clocks = k }
-  pub read : (c : Core) (k : Clocks) (port : ℕ) → (readReply c k port .number ≡ 0 → ⊥) → readReply c k port ≡ record { number = accessRefusal c (total k) port; byte = 0; core = c; clocks = k }
-  pub granted : (s : System M) (n : ℕ) → (grant σ s n .number ≡ 0 → ⊥) → grant σ s n ≡ record { number = grantNumber σ s n; byte = 0; system = s }
+  pub write : (c : Core) (k : Clocks) (port byte : ℕ) → (writeReply c k port byte .answered .number ≡ 0 → ⊥) → writeReply c k port byte ≡ record { answered = record { number = accessRefusal c (total k) port; byte = 0 }; core = c; clocks = k }
+  pub read : (c : Core) (k : Clocks) (port : ℕ) → (readReply c k port .answered .number ≡ 0 → ⊥) → readReply c k port ≡ record { answered = record { number = accessRefusal c (total k) port; byte = 0 }; core = c; clocks = k }
+  pub granted : (s : System M) (n : ℕ) → (grant σ s n .answered .number ≡ 0 → ⊥) → grant σ s n ≡ record { answered = record { number = grantNumber σ s n; byte = 0 }; system = s }

@@ -13,10 +13,10 @@ use Rattle.rules.specs.Clock.{slotLength, movedAt, kindAt, slotEnd, cloc
 use Rattle.rules.specs.Buffers.{placed, source, destination, byteAt, put}
 use Rattle.rules.specs.World.{buffersAfter, clocked}
 use Rattle.rules.specs.Refusals.{accessRefusal, lentRefusal, grantRefusal}
-use Rattle.rules.specs.Calls.{writeReply, readReply, grant}
+use Rattle.rules.specs.Calls.{unlessRefused, writeReply, readReply, grant}
 use Rattle.rules.specs.Entries.{poked, run}
-use Rattle.rules.specs.History.{zeroing, writePassed, unlessRefused, clocksPassed, history}
+use Rattle.rules.specs.History.{zeroing, writePassed, notedUnless, clocksPassed, history}
 
 unfoldable pub opened : Unit {0}
-unfolding pick every any means firstHit cycleOf stepped blockCount finished waiting busHeld unmoved ask follows validPending validPort validReadback restingSlot validLength runningSlot validSlot validProgress validCore valid enable readingCommand command wr3 register parameter effect statusByte registerByte after seek readByte slotLength movedAt kindAt slotEnd clockEnd slotClock firstClock clockOf source destination byteAt put buffersAfter clocked accessRefusal lentRefusal grantRefusal writeReply readReply grant poked run zeroing writePassed unlessRefused clocksPassed history placed
+unfolding pick every any means firstHit cycleOf stepped blockCount finished waiting busHeld unmoved ask follows validPending validPort validReadback restingSlot validLength runningSlot validSlot validProgress validCore valid enable readingCommand command wr3 register parameter effect statusByte registerByte after seek readByte slotLength movedAt kindAt slotEnd clockEnd slotClock firstClock clockOf source destination byteAt put buffersAfter clocked accessRefusal lentRefusal grantRefusal unlessRefused writeReply readReply grant poked run zeroing writePassed notedUnless clocksPassed history placed
 opened = tt

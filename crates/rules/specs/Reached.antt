@@ -10,7 +10,8 @@ use Rattle.rules.specs.Bytes.{AreBytes}
 use Rattle.rules.specs.Validity.{valid, total}
 use Rattle.rules.specs.Buffers.{Store, flat}
 use Rattle.rules.specs.Keeping.{ValidDevice}
-use Rattle.rules.specs.Entries.{Outside, Poke, flatOutside, Entry, portWrite, portRead, clockGrant, otherGrant, outsideChange, bytesWritten, Answered, Run, run, systemAtPowerOn}
+use Rattle.rules.specs.Calls.{Answered}
+use Rattle.rules.specs.Entries.{Outside, Poke, flatOutside, Entry, portWrite, portRead, clockGrant, otherGrant, outsideChange, bytesWritten, Run, run, systemAtPowerOn}
 use Rattle.rules.specs.History.{Event, clockNoted, counterZeroed, History, history, pastAtPowerOn}
 use Rattle.rules.specs.Accounts.{heldBefore}
 

@@ -8,8 +8,8 @@ use Rattle.rules.specs.Bytes.{AreBytes}
 use Rattle.rules.specs.Facts.{InRange}
 use Rattle.rules.specs.Buffers.{Store}
 use Rattle.rules.specs.World.{System}
-use Rattle.rules.specs.Calls.{grant}
-use Rattle.rules.specs.Entries.{Outside, Entry, clockGrant, bytesWritten, Answered, Run, run, systemAtPowerOn}
+use Rattle.rules.specs.Calls.{Answered, grant}
+use Rattle.rules.specs.Entries.{Outside, Entry, clockGrant, bytesWritten, Run, run, systemAtPowerOn}
 use Rattle.rules.specs.History.{Past, history, pastAtPowerOn}
 
 unfoldable pub sumOf : List ℕ → ℕ
@@ -20,13 +20,13 @@ module _ {M : Type 0} (σ : Store M) where
   -- all of these grants, made in turn from s, are accepted, and the last one ends at t
   unfoldable pub AcceptedInTurn : List ℕ → System M → System M → Type 0
   AcceptedInTurn [] s t = s ≡ t
-  AcceptedInTurn (n ∷ ns) s t = (grant σ s n .number ≡ 0) × AcceptedInTurn ns (grant σ s n .system) t
+  AcceptedInTurn (n ∷ ns) s t = (grant σ s n .answered .number ≡ 0) × AcceptedInTurn ns (grant σ s n .system) t
 
   -- every grant that s accepts may be split in any way, grants of 0 clocks among the parts, or no part at all for 0 clocks:
   -- made in turn, all are accepted, and they end where it ends, with the same device, buffers and counts
   abbrev pub SplitsAt : System M → Type 0
   SplitsAt s =
-      (n : ℕ) → grant σ s n .number ≡ 0 → (ns : List ℕ) → sumOf ns ≡ n → AcceptedInTurn ns s (grant σ s n .system)
+      (n : ℕ) → grant σ s n .answered .number ≡ 0 → (ns : List ℕ) → sumOf ns ≡ n → AcceptedInTurn ns s (grant σ s n .system)
 
   -- so it is with every device whose fields lie within their types, reached by a list or not
   abbrev pub Splits : Type 0
@@ -67,6 +67,6 @@ abbrev pub SplitsWithin : Type 1
 SplitsWithin =
     (M C : Type 0) (σ : Store M) (ω : Outside M C) (m : M) (l : List ℕ) (before after : List (Entry σ C)) (n : ℕ) (ns : List ℕ)
     → AreBytes (bytesWritten before)
-    → grant σ (run σ ω before (systemAtPowerOn m l) .system) n .number ≡ 0
+    → grant σ (run σ ω before (systemAtPowerOn m l) .system) n .answered .number ≡ 0
     → sumOf ns ≡ n
     → SplitWithin σ ω m l before n ns after

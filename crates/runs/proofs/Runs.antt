@@ -38,14 +38,14 @@ unfolding entriesOf run linesOf lastLine pick
 agrees-fault xs s fault e = record { system = refl; lines = simp e }
 
 -- one record more
-agrees-more : (xs : List ℕ) (s : System (List ℕ)) (r : Record) (e : Ended) (rs : List Record) → Agrees xs (effect xs r s .system) e rs → Agrees xs s (lineBefore (recordLine (r .number) (effect xs r s .number) (effect xs r s .byte)) e) (r ∷ rs)
+agrees-more : (xs : List ℕ) (s : System (List ℕ)) (r : Record) (e : Ended) (rs : List Record) → Agrees xs (effect xs r s .system) e rs → Agrees xs s (lineBefore (recordLine (r .number) (effect xs r s .answered .number) (effect xs r s .answered .byte)) e) (r ∷ rs)
 unfolding entriesOf run linesOf
 agrees-more xs s r e rs h =
     record {
       system = h .system;
       lines =
-          ap (λ (l : List ℕ). recordLine (r .number) (effect xs r s .number) (effect xs r s .byte) ++ l) (h .lines)
-          ∙ sym (append-assoc (recordLine (r .number) (effect xs r s .number) (effect xs r s .byte)) _ _);
+          ap (λ (l : List ℕ). recordLine (r .number) (effect xs r s .answered .number) (effect xs r s .answered .byte) ++ l) (h .lines)
+          ∙ sym (append-assoc (recordLine (r .number) (effect xs r s .answered .number) (effect xs r s .answered .byte)) _ _);
     }
 
 from : (most : ℕ) (xs : List ℕ) (p : ℕ) (s : System (List ℕ)) → Agrees xs s (recordsFrom most xs p s) (decodedFrom most xs p)

@@ -40,7 +40,7 @@ after : ℕ → List ℕ → Record → System (List ℕ) → Ended
 after most xs r s =
     pick (eqb (r .number) 5) (endedBy (countsLine (s .clocks)) 0 s)
     (pick (leb 20 (r .number)) (endedBy (faultLine (r .number)) (r .number) s)
-    (lineBefore (recordLine (r .number) (effect xs r s .number) (effect xs r s .byte))
+    (lineBefore (recordLine (r .number) (effect xs r s .answered .number) (effect xs r s .answered .byte))
     (recordsFrom most xs (r .next) (effect xs r s .system))))
 
 module _ (xs out : List ℕ) (room : 72 ≤ length out) (b : Buffers (List ℕ)) (d : Device) where
@@ -72,19 +72,19 @@ module _ (xs out : List ℕ) (room : 72 ≤ length out) (b : Buffers (List ℕ))
   step-long p e = pick-false _ _ _ (ne-eqb (longLength xs p) 0 e)
 
   -- a record that was carried out
-  onward-carried : (k most : ℕ) (r : Record) (a : Answer (List ℕ)) → ((out′ : List ℕ) → 72 ≤ length out′ → stepsFrom k (inPhase 1 0 (deviceOf (a .system))) xs (r .next) out′ (a .system .world .buffers) ≡ recordsFrom most xs (r .next) (a .system)) → onward k xs (carried r a out) ≡ lineBefore (recordLine (r .number) (a .number) (a .byte)) (recordsFrom most xs (r .next) (a .system))
+  onward-carried : (k most : ℕ) (r : Record) (a : Answer (List ℕ)) → ((out′ : List ℕ) → 72 ≤ length out′ → stepsFrom k (inPhase 1 0 (deviceOf (a .system))) xs (r .next) out′ (a .system .world .buffers) ≡ recordsFrom most xs (r .next) (a .system)) → onward k xs (carried r a out) ≡ lineBefore (recordLine (r .number) (a .answered .number) (a .answered .byte)) (recordsFrom most xs (r .next) (a .system))
   unfolding onward pick
   onward-carried k most r a h =
       ap
-      (λ (l : List ℕ). lineBefore l (stepsFrom k (inPhase 1 0 (deviceOf (a .system))) xs (r .next) (placed 0 (recordLine (r .number) (a .number) (a .byte)) out) (a .system .world .buffers)))
-      (put-taken (recordLine (r .number) (a .number) (a .byte)) out (omega (arith, record-room (r .number) (a .number) (a .byte))))
-      ∙ ap (lineBefore (recordLine (r .number) (a .number) (a .byte)))
+      (λ (l : List ℕ). lineBefore l (stepsFrom k (inPhase 1 0 (deviceOf (a .system))) xs (r .next) (placed 0 (recordLine (r .number) (a .answered .number) (a .answered .byte)) out) (a .system .world .buffers)))
+      (put-taken (recordLine (r .number) (a .answered .number) (a .answered .byte)) out (omega (arith, record-room (r .number) (a .answered .number) (a .answered .byte))))
+      ∙ ap (lineBefore (recordLine (r .number) (a .answered .number) (a .answered .byte)))
       (h
-      (placed 0 (recordLine (r .number) (a .number) (a .byte)) out)
-      (omega (arith, placed-size 0 (recordLine (r .number) (a .number) (a .byte)) out)))
+      (placed 0 (recordLine (r .number) (a .answered .number) (a .answered .byte)) out)
+      (omega (arith, placed-size 0 (recordLine (r .number) (a .answered .number) (a .answered .byte)) out)))
 
   -- what stands at a place, taken by a step
-  onward-record : (k most p : ℕ) (r : Record) → Stands xs p r → (p < r .next → onward k xs (carried r (effect xs r (systemWith d b)) out) ≡ lineBefore (recordLine (r .number) (effect xs r (systemWith d b) .number) (effect xs r (systemWith d b) .byte)) (recordsFrom most xs (r .next) (effect xs r (systemWith d b) .system))) → onward k xs (byRecord r (inPhase 1 0 d) xs out b) ≡ after most xs r (systemWith d b)
+  onward-record : (k most p : ℕ) (r : Record) → Stands xs p r → (p < r .next → onward k xs (carried r (effect xs r (systemWith d b)) out) ≡ lineBefore (recordLine (r .number) (effect xs r (systemWith d b) .answered .number) (effect xs r (systemWith d b) .answered .byte)) (recordsFrom most xs (r .next) (effect xs r (systemWith d b) .system))) → onward k xs (byRecord r (inPhase 1 0 d) xs out b) ≡ after most xs r (systemWith d b)
   unfolding byRecord after
   onward-record k most p r s h =
       ap (onward k xs) (pick-false _ _ _ (ne-eqb (r .number) 0 (λ e. omega (arith, s .some, e))))
@@ -225,7 +225,7 @@ module _ (xs : List ℕ) where
   one-more (suc most) p s h =
       both (λ (x y : Ended). x ≡ y) (eqb (recordAt xs p true .number) 5) _ _ _ _ (λ e. refl)
       (λ e. both (λ (x y : Ended). x ≡ y) (leb 20 (recordAt xs p true .number)) _ _ _ _ (λ f. refl)
-      (λ f. ap (lineBefore (recordLine (recordAt xs p true .number) (effect xs (recordAt xs p true) s .number) (effect xs (recordAt xs p true) s .byte)))
+      (λ f. ap (lineBefore (recordLine (recordAt xs p true .number) (effect xs (recordAt xs p true) s .answered .number) (effect xs (recordAt xs p true) s .answered .byte)))
       (one-more most (recordAt xs p true .next) (effect xs (recordAt xs p true) s .system)
       (omega (arith, h, stands xs p .takes (eqb-false (recordAt xs p true .number) 5 e) (λ z. omega (arith, leb-false 20 (recordAt xs p true .number) f, z)))))))
 

@@ -12,8 +12,8 @@ use Rattle.rules.specs.Choice.{pick}
 use Rattle.rules.specs.Bytes.{AreBytes}
 use Rattle.rules.specs.Buffers.{Buffers, flat}
 use Rattle.rules.specs.World.{System}
-use Rattle.rules.specs.Calls.{Answer}
-use Rattle.rules.specs.Entries.{Poke, flatOutside, Entry, Answered, Run, run, systemAtPowerOn}
+use Rattle.rules.specs.Calls.{Answered, Answer}
+use Rattle.rules.specs.Entries.{Poke, flatOutside, Entry, Run, run, systemAtPowerOn}
 use Rattle.rules.specs.History.{History, history, pastAtPowerOn}
 use Rattle.rules.specs.Splitting.{SplitsAt}
 use Rattle.rules.specs.Accounts.{Accounted}
@@ -51,7 +51,7 @@ recordsFrom (suc most) xs p s =
     let a : Answer (List ℕ) = effect xs r s in
     pick (eqb (r .number) inputEnds) (endedBy (countsLine (s .clocks)) 0 s)
     (pick (leb noVersion (r .number)) (endedBy (faultLine (r .number)) (r .number) s)
-    (lineBefore (recordLine (r .number) (a .number) (a .byte)) (recordsFrom most xs (r .next) (a .system))))
+    (lineBefore (recordLine (r .number) (a .answered .number) (a .answered .byte)) (recordsFrom most xs (r .next) (a .system))))
 
 -- a session: the version byte, 1, and the records behind it
 unfoldable pub session : List ℕ → Ended

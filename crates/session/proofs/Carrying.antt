@@ -5,7 +5,7 @@ use mathlib.Core.Path.{_≡_, refl, sym, ap, _∙_}
 use mathlib.Core.List.{List, []}
 use borrow.Author.Tests.{eq-eqb, ne-eqb}
 use Rattle.rules.specs.Buffers.{flat}
-use Rattle.rules.specs.Calls.{Answer, Reply, writeReply, readReply, grant}
+use Rattle.rules.specs.Calls.{Answer, Reply, accepted, unlessRefused, writeReply, readReply, grant}
 use Rattle.rules.specs.Entries.{Poke, poked, flatOutside, Entry, portWrite, portRead, clockGrant, outsideChange, enter}
 use Rattle.rules.specs.Choice.{pick}
 use Rattle.rules.specs.declared.Clocks.{Clocks}
@@ -20,9 +20,9 @@ use Rattle.session.specs.Effects.{pokes, entryOf, effect}
 use Rattle.records.specs.declared.Record.{Record}
 
 -- a write gives no byte
-write-byte : (c : Core) (k : Clocks) (port byte : ℕ) → writeReply c k port byte .byte ≡ 0
-unfolding writeReply
-write-byte c k port byte = pick-both (λ (r : Reply). r .byte ≡ 0) _ _ _ refl refl
+write-byte : (c : Core) (k : Clocks) (port byte : ℕ) → writeReply c k port byte .answered .byte ≡ 0
+unfolding writeReply unlessRefused
+write-byte c k port byte = pick-both (λ (r : Reply). r .answered .byte ≡ 0) _ _ _ refl refl
 
 module _ (xs : List ℕ) (r : Record) where
   entry-write : r .number ≡ 1 → portWrite (r .word) (r .byte) ≡ entryOf xs r
@@ -56,29 +56,28 @@ module _ (xs : List ℕ) (r : Record) where
     on : Entry flat (List Poke) → Answer (List ℕ)
     on e = enter flat flatOutside e (systemOf d m l)
 
-    pub carried-write : (a : WriteAnswer) → r .number ≡ 1 → a ≡ writeAnswer (writeReply (d .core) (d .clocks) (r .word) (r .byte)) → _≡_ {A = Answer (List ℕ)} (record { number = a .number; byte = 0; system = systemOf (a .device) m l }) (effect xs r (systemOf d m l))
+    pub carried-write : (a : WriteAnswer) → r .number ≡ 1 → a ≡ writeAnswer (writeReply (d .core) (d .clocks) (r .word) (r .byte)) → _≡_ {A = Answer (List ℕ)} (record { answered = record { number = a .number; byte = 0 }; system = systemOf (a .device) m l }) (effect xs r (systemOf d m l))
     unfolding on
     carried-write a e h =
         (λ i. record {
-          number = h i .number;
-          byte = sym (write-byte (d .core) (d .clocks) (r .word) (r .byte)) i;
+          answered = record { number = h i .number; byte = sym (write-byte (d .core) (d .clocks) (r .word) (r .byte)) i };
           system = systemOf (h i .device) m l;
         })
         ∙ ap on (entry-write e)
 
-    pub carried-read : (a : ReadAnswer) → (r .number ≡ 1 → ⊥) → r .number ≡ 2 → a ≡ readAnswer (readReply (d .core) (d .clocks) (r .word)) → _≡_ {A = Answer (List ℕ)} (record { number = a .number; byte = a .byte; system = systemOf (a .device) m l }) (effect xs r (systemOf d m l))
+    pub carried-read : (a : ReadAnswer) → (r .number ≡ 1 → ⊥) → r .number ≡ 2 → a ≡ readAnswer (readReply (d .core) (d .clocks) (r .word)) → _≡_ {A = Answer (List ℕ)} (record { answered = record { number = a .number; byte = a .byte }; system = systemOf (a .device) m l }) (effect xs r (systemOf d m l))
     unfolding on
     carried-read a n e h =
-        (λ i. record { number = h i .number; byte = h i .byte; system = systemOf (h i .device) m l }) ∙ ap on (entry-read n e)
+        (λ i. record { answered = record { number = h i .number; byte = h i .byte }; system = systemOf (h i .device) m l }) ∙ ap on (entry-read n e)
 
     pub carried-grant : (a : GrantAnswer) (m′ l′ : List ℕ) → (r .number ≡ 1 → ⊥) → (r .number ≡ 2 → ⊥) → r .number ≡ 3 → grantAnswer a m′ l′ ≡ grant flat (systemOf d m l) (r .clocks) → grantAnswer a m′ l′ ≡ effect xs r (systemOf d m l)
     unfolding on
     carried-grant a m′ l′ n o e h = h ∙ ap on (entry-grant n o e)
 
-    pub carried-memory : (m′ : List ℕ) → Other → r .number ≡ 4 → m′ ≡ poked (pokes (r .next - r .start) xs (r .start) (r .word)) m → _≡_ {A = Answer (List ℕ)} (record { number = 0; byte = 0; system = systemOf d m′ l }) (effect xs r (systemOf d m l))
+    pub carried-memory : (m′ : List ℕ) → Other → r .number ≡ 4 → m′ ≡ poked (pokes (r .next - r .start) xs (r .start) (r .word)) m → _≡_ {A = Answer (List ℕ)} (record { answered = accepted 0; system = systemOf d m′ l }) (effect xs r (systemOf d m l))
     unfolding on
-    carried-memory m′ o e h = (λ i. record { number = 0; byte = 0; system = systemOf d (h i) l }) ∙ ap on (entry-memory o e)
+    carried-memory m′ o e h = (λ i. record { answered = accepted 0; system = systemOf d (h i) l }) ∙ ap on (entry-memory o e)
 
-    pub carried-none : Other → (r .number ≡ 4 → ⊥) → _≡_ {A = Answer (List ℕ)} (record { number = 0; byte = 0; system = systemOf d m l }) (effect xs r (systemOf d m l))
+    pub carried-none : Other → (r .number ≡ 4 → ⊥) → _≡_ {A = Answer (List ℕ)} (record { answered = accepted 0; system = systemOf d m l }) (effect xs r (systemOf d m l))
     unfolding on poked
     carried-none o n = ap on (entry-none o n)

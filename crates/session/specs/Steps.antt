@@ -116,7 +116,7 @@ abbrev pub carried : Record → Answer (List ℕ) → List ℕ → Outcome
 carried r a out =
     record {
       said =
-          withLine goesOn 0 (r .next) (recordLine (r .number) (a .number) (a .byte)) (inPhase atRecord 0 (deviceOf (a .system))) out;
+          withLine goesOn 0 (r .next) (recordLine (r .number) (a .answered .number) (a .answered .byte)) (inPhase atRecord 0 (deviceOf (a .system))) out;
       buffers = a .system .world .buffers;
     }
 

@@ -20,11 +20,11 @@ deviceAtPowerOn = device powerOn noClocks
 
 -- the answer to a write: the reply's number, core and clock counts
 abbrev pub writeAnswer : Reply → WriteAnswer
-writeAnswer r = record { number = r .number; device = device (r .core) (r .clocks) }
+writeAnswer r = record { number = r .answered .number; device = device (r .core) (r .clocks) }
 
 -- the answer to a read: the byte too
 abbrev pub readAnswer : Reply → ReadAnswer
-readAnswer r = record { number = r .number; byte = r .byte; device = device (r .core) (r .clocks) }
+readAnswer r = record { number = r .answered .number; byte = r .answered .byte; device = device (r .core) (r .clocks) }
 
 -- a device beside the two buffers that a caller lends
 abbrev pub systemOf : Device → List ℕ → List ℕ → System (List ℕ)
@@ -32,4 +32,4 @@ systemOf d m l = system (d .core) (record { memory = m; latches = l }) (d .clock
 
 -- the answer to a grant, with both buffers as the call leaves them
 abbrev pub grantAnswer : GrantAnswer → List ℕ → List ℕ → Answer (List ℕ)
-grantAnswer r m l = record { number = r .number; byte = 0; system = systemOf (r .device) m l }
+grantAnswer r m l = record { answered = record { number = r .number; byte = 0 }; system = systemOf (r .device) m l }
