@@ -13,8 +13,8 @@ use Rattle.rules.specs.Choice.{pick}
 use Rattle.rules.specs.Buffers.{Buffers}
 use Rattle.rules.proofs.Choice.{pick-both, pick-ap, pick-cases, pick-true}
 use Rattle.session.specs.Steps.{Said, Outcome, versionStep, longStep, byRecord, recordStep, stepOf}
-use Rattle.runs.specs.Sessions.{lineIn}
-use Rattle.runs.specs.Pieces.{farther}
+use Rattle.runs.specs.Stepping.{lineIn}
+use Rattle.runs.specs.Moving.{farther}
 use Rattle.session.specs.declared.step.Session.{Session}
 use Rattle.runs.proofs.Pieces.{step-stands}
 use Rattle.runs.proofs.Moving.{step-moves}

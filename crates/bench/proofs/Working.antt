@@ -15,7 +15,7 @@ use Rattle.rules.specs.Buffers.{Buffers}
 use Rattle.rules.proofs.Choice.{pick-ap, pick-true, pick-false, pick-cases}
 use Rattle.clocking.specs.Answers.{borrowed}
 use Rattle.session.specs.Steps.{Outcome, stepOf, outcome}
-use Rattle.runs.specs.Sessions.{lineIn}
+use Rattle.runs.specs.Stepping.{lineIn}
 use Rattle.session.specs.declared.step.Session.{Session}
 use Rattle.session.specs.declared.step.Step.{Step}
 use Rattle.records.proofs.Choosing.{same}

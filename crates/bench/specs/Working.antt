@@ -9,7 +9,7 @@ use lib.ListN.{length, take, drop}
 use Rattle.rules.specs.Choice.{pick}
 use Rattle.rules.specs.Buffers.{Buffers}
 use Rattle.session.specs.Steps.{goesOn, Outcome, stepOf}
-use Rattle.runs.specs.Sessions.{lineIn}
+use Rattle.runs.specs.Stepping.{lineIn}
 use Rattle.session.specs.declared.step.Session.{Session}
 use Rattle.bench.specs.Buffered.{atHand}
 use Rattle.bench.specs.declared.State.{State}

@@ -14,7 +14,7 @@ use Rattle.rules.proofs.Choice.{pick-true, pick-ap, either}
 use Rattle.records.specs.Records.{word, recordAt, longLength}
 use Rattle.session.specs.Effects.{pokes, entryOf}
 use Rattle.session.specs.Steps.{Said, Outcome, inPhase, withoutLine, buffersKept, lastFault, carried, systemWith, versionStep, longStep, byRecord, recordStep, stepOf}
-use Rattle.runs.specs.Pieces.{farther, StepMoves}
+use Rattle.runs.specs.Moving.{farther, StepMoves}
 use Rattle.records.specs.declared.Record.{Record}
 use Rattle.session.specs.declared.step.Session.{Session}
 use Rattle.runs.proofs.Pieces.{without-room, at-version, at-record, at-long, at-over}
