@@ -24,15 +24,14 @@ use Rattle.runs.specs.Stepping.{endedBy, lineBefore, lineIn, systemIn, s
 use Rattle.records.specs.declared.Record.{Record}
 use Rattle.records.proofs.Choosing.{both}
 use Rattle.records.proofs.Standing.{Stands, stands, at-end, short-end, long, record-whole, record-cut}
-use Rattle.lines.proofs.Putting.{put-taken, placed-size}
-use Rattle.lines.proofs.Room.{number-room, record-room, counts-room}
+use Rattle.lines.proofs.Lines.{put-taken, placed-size, number-room, record-room, counts-room}
 use Rattle.runs.proofs.Sessions.{played, after, played-end, played-fault, played-from}
 
 -- ---- what follows a step
 
 onward : ℕ → List ℕ → Outcome → Ended
 onward most xs o =
-    pick (eqb (o .said .step .number) 2) (endedBy (lineIn o) (o .said .step .fault) (systemIn o))
+    pick (eqb (o .said .step .progress) 2) (endedBy (lineIn o) (o .said .step .fault) (systemIn o))
     (lineBefore (lineIn o)
     (stepsFrom most (o .said .step .session) xs (o .said .step .next) (o .said .line) (o .buffers)))
 

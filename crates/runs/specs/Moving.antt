@@ -17,7 +17,7 @@ farther k o =
           record {
             step =
                 record {
-                  number = o .said .step .number;
+                  progress = o .said .step .progress;
                   fault = o .said .step .fault;
                   next = k + o .said .step .next;
                   length = o .said .step .length;

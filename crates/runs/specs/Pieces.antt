@@ -15,5 +15,5 @@ next o xs ended = stepOf (o .said .step .session) xs (o .said .step .next) ended
 -- of a step over the bytes xs, with more to come: where it does not wait, it is the step over xs and any further bytes ys;
 -- where it waits, the step that goes on from it over xs and ys is the step over them from where it began
 pub record StepStands (s : Session) (xs : List ℕ) (p : ℕ) (out : List ℕ) (b : Buffers (List ℕ)) (ys : List ℕ) (ended : Bool) : Type 0 where
-  pub stands : (stepOf s xs p false out b .said .step .number ≡ needsBytes → ⊥) → stepOf s (xs ++ ys) p ended out b ≡ stepOf s xs p false out b
-  pub waits : stepOf s xs p false out b .said .step .number ≡ needsBytes → next (stepOf s xs p false out b) (xs ++ ys) ended ≡ stepOf s (xs ++ ys) p ended out b
+  pub stands : (stepOf s xs p false out b .said .step .progress ≡ needsBytes → ⊥) → stepOf s (xs ++ ys) p ended out b ≡ stepOf s xs p false out b
+  pub waits : stepOf s xs p false out b .said .step .progress ≡ needsBytes → next (stepOf s xs p false out b) (xs ++ ys) ended ≡ stepOf s (xs ++ ys) p ended out b

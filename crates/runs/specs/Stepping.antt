@@ -34,7 +34,7 @@ unfoldable pub stepsFrom : ℕ → Session → List ℕ → ℕ → List ℕ →
 stepsFrom zero s xs p out b = endedBy [] 0 (systemWith (s .device) b)
 stepsFrom (suc most) s xs p out b =
     let o : Outcome = stepOf s xs p true out b in
-    pick (eqb (o .said .step .number) isOver) (endedBy (lineIn o) (o .said .step .fault) (systemIn o))
+    pick (eqb (o .said .step .progress) isOver) (endedBy (lineIn o) (o .said .step .fault) (systemIn o))
     (lineBefore (lineIn o)
     (stepsFrom most (o .said .step .session) xs (o .said .step .next) (o .said .line) (o .buffers)))
 
