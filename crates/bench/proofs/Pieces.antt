@@ -13,8 +13,8 @@ use Rattle.rules.specs.Choice.{pick}
 use Rattle.rules.specs.Buffers.{Buffers}
 use Rattle.rules.proofs.Choice.{pick-both, pick-ap, pick-cases, pick-true}
 use Rattle.session.specs.Steps.{Said, Outcome, versionStep, longStep, byRecord, recordStep, stepOf}
-use Rattle.runs.specs.Sessions.{lineIn}
-use Rattle.runs.specs.Pieces.{farther}
+use Rattle.runs.specs.Stepping.{lineIn}
+use Rattle.runs.specs.Moving.{farther}
 use Rattle.session.specs.declared.step.Session.{Session}
 use Rattle.runs.proofs.Pieces.{step-stands}
 use Rattle.runs.proofs.Moving.{step-moves}
@@ -25,7 +25,7 @@ use Rattle.bench.proofs.Working.{withLines, enough}
 -- ---- a step that waits writes no line
 
 Bare : Outcome → Type 0
-Bare o = o .said .step .number ≡ 1 → o .said .step .length ≡ 0
+Bare o = o .said .step .progress ≡ 1 → o .said .step .length ≡ 0
 
 module _ (s : Session) (xs : List ℕ) (p : ℕ) (ended : Bool) (out : List ℕ) (b : Buffers (List ℕ)) where
   bare-version : Bare (record { said = versionStep s xs p ended out; buffers = b })
@@ -52,7 +52,7 @@ module _ (s : Session) (xs : List ℕ) (p : ℕ) (ended : Bool) (out : List ℕ)
       (pick-both Bare _ _ _ (λ e. absurd (omega (arith, e))) (λ e. absurd (omega (arith, e))))))
       (λ e. refl)
 
-  step-bare : stepOf s xs p ended out b .said .step .number ≡ 1 → stepOf s xs p ended out b .said .step .length ≡ 0
+  step-bare : stepOf s xs p ended out b .said .step .progress ≡ 1 → stepOf s xs p ended out b .said .step .length ≡ 0
   unfolding stepOf Bare
   step-bare =
       pick-both Bare _ _ _ (λ e. refl)
@@ -65,7 +65,7 @@ module _ (s : Session) (xs : List ℕ) (p : ℕ) (ended : Bool) (out : List ℕ)
 from-step : (n : ℕ) (xs : List ℕ) (ended : Bool) → Outcome → Gathered
 from-step zero xs ended o = gatheredOnce o
 from-step (suc n) xs ended o =
-    pick (eqb (o .said .step .number) 0)
+    pick (eqb (o .said .step .progress) 0)
     (linesBefore (lineIn o) (gatheredFrom n (o .said .step .session) xs (o .said .step .next) ended (behindLine o) (o .buffers)))
     (gatheredOnce o)
 
@@ -82,9 +82,9 @@ moves (suc n) s xs k p ended out b = let
     in
     ap (from-step (suc n) xs ended) (step-moves s xs p out b ended k)
     ∙ ap
-    (λ (g : Gathered). pick (eqb (o .said .step .number) 0) (linesBefore (lineIn o) g) (gatheredOnce (farther k o)))
+    (λ (g : Gathered). pick (eqb (o .said .step .progress) 0) (linesBefore (lineIn o) g) (gatheredOnce (farther k o)))
     (moves n (o .said .step .session) xs k (o .said .step .next) ended (behindLine o) (o .buffers))
-    ∙ sym (pick-ap (placeFarther k) (eqb (o .said .step .number) 0) _ _)
+    ∙ sym (pick-ap (placeFarther k) (eqb (o .said .step .progress) 0) _ _)
 
 -- ---- more bytes
 
@@ -92,7 +92,7 @@ module _ (xs ys : List ℕ) (ended : Bool) where
   -- with all bytes at hand, the steps are these and those behind them
   Follows : Session → ℕ → List ℕ → Buffers (List ℕ) → Gathered → Type 0
   Follows s p out b g =
-      g .number ≡ 1
+      g .progress ≡ 1
       → gathered s (xs ++ ys) p ended out b ≡ linesBefore (g .lines) (gathered (g .session) (xs ++ ys) (g .next) ended (g .unused) (g .buffers))
 
   waiting : (s : Session) (p : ℕ) (out : List ℕ) (b : Buffers (List ℕ)) → Follows s p out b (gatheredOnce (stepOf s xs p false out b))
@@ -107,7 +107,7 @@ module _ (xs ys : List ℕ) (ended : Bool) where
       (λ (n : ℕ). linesBefore (take n (o .said .line)) (gathered (o .said .step .session) (xs ++ ys) (o .said .step .next) ended (drop n (o .said .line)) (o .buffers)))
       (sym (step-bare s xs p false out b e))
 
-  going : (s : Session) (p : ℕ) (out : List ℕ) (b : Buffers (List ℕ)) (g : Gathered) → stepOf s xs p false out b .said .step .number ≡ 0 → Follows (stepOf s xs p false out b .said .step .session) (stepOf s xs p false out b .said .step .next) (behindLine (stepOf s xs p false out b)) (stepOf s xs p false out b .buffers) g → Follows s p out b (linesBefore (lineIn (stepOf s xs p false out b)) g)
+  going : (s : Session) (p : ℕ) (out : List ℕ) (b : Buffers (List ℕ)) (g : Gathered) → stepOf s xs p false out b .said .step .progress ≡ 0 → Follows (stepOf s xs p false out b .said .step .session) (stepOf s xs p false out b .said .step .next) (behindLine (stepOf s xs p false out b)) (stepOf s xs p false out b .buffers) g → Follows s p out b (linesBefore (lineIn (stepOf s xs p false out b)) g)
   unfolding Follows from-step
   going s p out b g q f e = let
       o : Outcome = stepOf s xs p false out b
@@ -116,7 +116,7 @@ module _ (xs ys : List ℕ) (ended : Bool) where
       enough (xs ++ ys) ended (length (xs ++ ys)) (suc (length (xs ++ ys))) s p out b (omega arith) (omega arith)
       ∙ by-step (suc (length (xs ++ ys))) s (xs ++ ys) p ended out b
       ∙ ap (from-step (suc (length (xs ++ ys))) (xs ++ ys) ended) (step-stands s xs p out b ys ended .stands (λ w. omega (arith, w, q)))
-      ∙ pick-true _ _ _ (eq-eqb (o .said .step .number) 0 q)
+      ∙ pick-true _ _ _ (eq-eqb (o .said .step .progress) 0 q)
       ∙ ap (linesBefore (lineIn o)) (f e)
       ∙ ap (withLines more) (sym (append-assoc (lineIn o) (g .lines) (more .lines)))
 
@@ -126,8 +126,8 @@ module _ (xs ys : List ℕ) (ended : Bool) where
   follows (suc n) s p out b = let
       o : Outcome = stepOf s xs p false out b
       in
-      pick-cases (Follows s p out b) (eqb (o .said .step .number) 0) _ _
-      (λ q. going s p out b _ (eqb-true (o .said .step .number) 0 q) (follows n (o .said .step .session) (o .said .step .next) (behindLine o) (o .buffers)))
+      pick-cases (Follows s p out b) (eqb (o .said .step .progress) 0) _ _
+      (λ q. going s p out b _ (eqb-true (o .said .step .progress) 0 q) (follows n (o .said .step .session) (o .said .step .next) (behindLine o) (o .buffers)))
       (λ q. waiting s p out b)
 
   -- from the first byte not taken

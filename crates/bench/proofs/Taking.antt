@@ -61,7 +61,7 @@ module _ (xs : List ℕ) (p : ℕ) where
 
   -- a step that goes on
   Takes : Outcome → Type 0
-  Takes o = o .said .step .number ≡ 0 → Taken xs p (o .said .step .next)
+  Takes o = o .said .step .progress ≡ 0 → Taken xs p (o .said .step .next)
 
   takes-version : (s : Session) (ended : Bool) (out : List ℕ) (b : Buffers (List ℕ)) → Takes (record { said = versionStep s xs p ended out; buffers = b })
   unfolding versionStep Takes
@@ -92,7 +92,7 @@ module _ (xs : List ℕ) (p : ℕ) where
       (λ q e. stands ended (eqb-false (r .number) 0 q₀) (eqb-false (r .number) 5 q₅) (leb-false 20 (r .number) q)))))
       (λ a e. omega (arith, long-there xs p (eqb-false (longLength xs p) 0 a)))
 
-pub step-takes : (s : Session) (xs : List ℕ) (p : ℕ) (ended : Bool) (out : List ℕ) (b : Buffers (List ℕ)) → stepOf s xs p ended out b .said .step .number ≡ 0 → Taken xs p (stepOf s xs p ended out b .said .step .next)
+pub step-takes : (s : Session) (xs : List ℕ) (p : ℕ) (ended : Bool) (out : List ℕ) (b : Buffers (List ℕ)) → stepOf s xs p ended out b .said .step .progress ≡ 0 → Taken xs p (stepOf s xs p ended out b .said .step .next)
 unfolding stepOf Takes
 step-takes s xs p ended out b =
     pick-both (Takes xs p) _ _ _ (λ e. absurd (omega (arith, e)))

@@ -100,8 +100,8 @@ shown : {X Y : Type 0} → X ≡ Y → Y → X
 shown e y = subst⁻¹ (λ (Z : Type 0). Z) e y
 
 module _ (s : State) (input output : List ℕ) (b : Buffers (List ℕ)) (fits : s .have ≤ length input) {w : Worked} {o m l : List ℕ} (e : left w o m l ≡ leftBy (gatheredIn s input output b)) where
-  last-number : w .number ≡ gatheredIn s input output b .number
-  last-number = ap (λ (x : Left). x .worked .number) e
+  last-progress : w .progress ≡ gatheredIn s input output b .progress
+  last-progress = ap (λ (x : Left). x .worked .progress) e
 
   turned : (r : Left → State) (written : Bool) {input′ : List ℕ} → NextTurn written s (gatheredIn s input output b) input (r (leftBy (gatheredIn s input output b))) input′ → r (leftBy (gatheredIn s input output b)) .have ≤ length input′ → Turned s (gatheredIn s input output b) input (r (left w o m l)) input′ o (borrowed m l)
   turned r written {input′} next h =
@@ -112,26 +112,26 @@ module _ (s : State) (input output : List ℕ) (b : Buffers (List ℕ)) (fits : 
   unfolding NextTurn pick
   turned-unwritten = turned (stateOf s true) false (refl, refl) fits
 
-  pub turned-over : w .number ≡ 2 → Turned s (gatheredIn s input output b) input (stateOf s true (left w o m l)) input o (borrowed m l)
+  pub turned-over : w .progress ≡ 2 → Turned s (gatheredIn s input output b) input (stateOf s true (left w o m l)) input o (borrowed m l)
   unfolding NextTurn pick
-  turned-over n = turned (stateOf s true) true (shown (pick-true _ _ _ (eq-eqb _ 2 (sym last-number ∙ n))) (refl, refl)) fits
+  turned-over n = turned (stateOf s true) true (shown (pick-true _ _ _ (eq-eqb _ 2 (sym last-progress ∙ n))) (refl, refl)) fits
 
-  module _ (n : w .number ≡ 2 → ⊥) where
-    goes : eqb (gatheredIn s input output b .number) 2 ≡ false
-    goes = ne-eqb _ 2 (λ q. n (last-number ∙ q))
+  module _ (n : w .progress ≡ 2 → ⊥) where
+    goes : eqb (gatheredIn s input output b .progress) 2 ≡ false
+    goes = ne-eqb _ 2 (λ q. n (last-progress ∙ q))
 
-    pub turned-on : (w .number ≡ 1 → ⊥) → Turned s (gatheredIn s input output b) input (stateOf s (s .stopped) (left w o m l)) input o (borrowed m l)
+    pub turned-on : (w .progress ≡ 1 → ⊥) → Turned s (gatheredIn s input output b) input (stateOf s (s .stopped) (left w o m l)) input o (borrowed m l)
     unfolding NextTurn pick
     turned-on k =
-        turned (stateOf s (s .stopped)) true (shown (pick-false _ _ _ goes) (shown (pick-false _ _ _ (ne-eqb _ 1 (λ q. k (last-number ∙ q)))) (refl, refl))) fits
+        turned (stateOf s (s .stopped)) true (shown (pick-false _ _ _ goes) (shown (pick-false _ _ _ (ne-eqb _ 1 (λ q. k (last-progress ∙ q)))) (refl, refl))) fits
 
-    pub turned-more : {r : State} {input′ : List ℕ} → w .number ≡ 1 → Refilled (stateOf s (s .stopped) (left w o m l)) input r input′ → Turned s (gatheredIn s input output b) input r input′ o (borrowed m l)
+    pub turned-more : {r : State} {input′ : List ℕ} → w .progress ≡ 1 → Refilled (stateOf s (s .stopped) (left w o m l)) input r input′ → Turned s (gatheredIn s input output b) input r input′ o (borrowed m l)
     unfolding NextTurn pick
     turned-more {r} {input′} k f = let
         more : Refilled (stateOf s (s .stopped) (leftBy (gatheredIn s input output b))) input r input′ =
         subst (λ (x : Left). Refilled (stateOf s (s .stopped) x) input r input′) e f
         in
-        turned (λ x. r) true (shown (pick-false _ _ _ goes) (shown (pick-true _ _ _ (eq-eqb _ 1 (sym last-number ∙ k))) more)) (refilled-fits f)
+        turned (λ x. r) true (shown (pick-false _ _ _ goes) (shown (pick-true _ _ _ (eq-eqb _ 1 (sym last-progress ∙ k))) more)) (refilled-fits f)
 
 -- ---- the run
 

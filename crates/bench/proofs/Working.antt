@@ -15,7 +15,7 @@ use Rattle.rules.specs.Buffers.{Buffers}
 use Rattle.rules.proofs.Choice.{pick-ap, pick-true, pick-false, pick-cases}
 use Rattle.clocking.specs.Answers.{borrowed}
 use Rattle.session.specs.Steps.{Outcome, stepOf, outcome}
-use Rattle.runs.specs.Sessions.{lineIn}
+use Rattle.runs.specs.Stepping.{lineIn}
 use Rattle.session.specs.declared.step.Session.{Session}
 use Rattle.session.specs.declared.step.Step.{Step}
 use Rattle.records.proofs.Choosing.{same}
@@ -53,12 +53,12 @@ module _ (filled : ℕ) (s : Session) (xs : List ℕ) (have p : ℕ) (ended : Bo
 
 -- the steps that can come from a place on, at most
 unfoldable pub toGo : List ℕ → ℕ → ℕ → ℕ
-toGo xs number p = pick (eqb number 0) (suc (length xs - p)) 0
+toGo xs progress p = pick (eqb progress 0) (suc (length xs - p)) 0
 
 -- the same with other lines
 abbrev pub withLines : Gathered → List ℕ → Gathered
 withLines g lines =
-    record { number = g .number; session = g .session; next = g .next; lines = lines; unused = g .unused; buffers = g .buffers }
+    record { progress = g .progress; session = g .session; next = g .next; lines = lines; unused = g .unused; buffers = g .buffers }
 
 module _ (xs : List ℕ) (ended : Bool) where
   -- where no byte is left, the first step is the last
@@ -78,14 +78,14 @@ module _ (xs : List ℕ) (ended : Bool) where
   enough (suc m) (suc n) s p out b h k = let
       o : Outcome = stepOf s xs p ended out b
       in
-      same (eqb (o .said .step .number) 0) _ _ _ _
+      same (eqb (o .said .step .progress) 0) _ _ _ _
       (λ e. let
       t : Taken xs p (o .said .step .next) = step-takes s xs p ended out b (eqb-true _ 0 e)
       in
       ap (linesBefore (lineIn o)) (enough m n (o .said .step .session) (o .said .step .next) (behindLine o) (o .buffers) (omega arith) (omega arith)))
       (λ e. refl)
 
-  stops : (n : ℕ) (s : Session) (p : ℕ) (out : List ℕ) (b : Buffers (List ℕ)) → length xs - p ≤ n → gatheredFrom n s xs p ended out b .number ≡ 0 → ⊥
+  stops : (n : ℕ) (s : Session) (p : ℕ) (out : List ℕ) (b : Buffers (List ℕ)) → length xs - p ≤ n → gatheredFrom n s xs p ended out b .progress ≡ 0 → ⊥
   unfolding gatheredFrom
   stops zero s p out b h = λ e. let
       t : Taken xs p (stepOf s xs p ended out b .said .step .next) = step-takes s xs p ended out b e
@@ -94,12 +94,12 @@ module _ (xs : List ℕ) (ended : Bool) where
   stops (suc n) s p out b h = let
       o : Outcome = stepOf s xs p ended out b
       in
-      pick-cases (λ (g : Gathered). g .number ≡ 0 → ⊥) (eqb (o .said .step .number) 0) _ _
+      pick-cases (λ (g : Gathered). g .progress ≡ 0 → ⊥) (eqb (o .said .step .progress) 0) _ _
       (λ q. let
       t : Taken xs p (o .said .step .next) = step-takes s xs p ended out b (eqb-true _ 0 q)
       in
       stops n (o .said .step .session) (o .said .step .next) (behindLine o) (o .buffers) (omega arith))
-      (λ q. eqb-false (o .said .step .number) 0 q)
+      (λ q. eqb-false (o .said .step .progress) 0 q)
 
   pub all-gathered : (s : Session) (p : ℕ) (out : List ℕ) (b : Buffers (List ℕ)) → AllGathered s xs p ended out b
   all-gathered s p out b =
@@ -110,13 +110,13 @@ module _ (xs : List ℕ) (ended : Bool) where
 
   -- the steps from here on; none where the last one did not go on
   unfoldable pub ahead : ℕ → Session → ℕ → List ℕ → Buffers (List ℕ) → Gathered
-  ahead number s p out b =
-      pick (eqb number 0) (gathered s xs p ended out b)
-      (record { number = number; session = s; next = p; lines = []; unused = out; buffers = b })
+  ahead progress s p out b =
+      pick (eqb progress 0) (gathered s xs p ended out b)
+      (record { progress = progress; session = s; next = p; lines = []; unused = out; buffers = b })
 
   -- those behind a step, with the slice for their lines
   abbrev pub aheadOf : Outcome → List ℕ → Gathered
-  aheadOf o out = ahead (o .said .step .number) (o .said .step .session) (o .said .step .next) out (o .buffers)
+  aheadOf o out = ahead (o .said .step .progress) (o .said .step .session) (o .said .step .next) out (o .buffers)
 
   step-first : (s : Session) (p : ℕ) (out : List ℕ) (b : Buffers (List ℕ)) → linesBefore (lineIn (stepOf s xs p ended out b)) (aheadOf (stepOf s xs p ended out b) (behindLine (stepOf s xs p ended out b))) ≡ gathered s xs p ended out b
   unfolding ahead gatheredFrom
@@ -124,9 +124,9 @@ module _ (xs : List ℕ) (ended : Bool) where
       o : Outcome = stepOf s xs p ended out b
       in
       let more : Gathered = gathered (o .said .step .session) xs (o .said .step .next) ended (behindLine o) (o .buffers) in
-      pick-ap (linesBefore (lineIn o)) (eqb (o .said .step .number) 0) _ _
+      pick-ap (linesBefore (lineIn o)) (eqb (o .said .step .progress) 0) _ _
       ∙ ap
-      (λ (x : List ℕ). pick (eqb (o .said .step .number) 0) (linesBefore (lineIn o) more) (withLines (gatheredOnce o) x))
+      (λ (x : List ℕ). pick (eqb (o .said .step .progress) 0) (linesBefore (lineIn o) more) (withLines (gatheredOnce o) x))
       (append-nil (lineIn o))
       ∙ enough (suc (length xs)) (length xs) s p out b (omega arith) (omega arith)
 
@@ -154,8 +154,8 @@ module _ (xs : List ℕ) (ended : Bool) where
 
   module _ (s₀ : Session) (p₀ : ℕ) (output₀ memory₀ latches₀ : List ℕ) where
     -- where the loop is: the lines gathered and the steps still to come are all the steps
-    pub record Going (output memory latches : List ℕ) (s : Session) (p filled number : ℕ) : Type 0 where
-      pub all : linesBefore (take filled output) (ahead number s p (drop filled output) (borrowed memory latches)) ≡ gathered s₀ xs p₀ ended output₀ (borrowed memory₀ latches₀)
+    pub record Going (output memory latches : List ℕ) (s : Session) (p filled progress : ℕ) : Type 0 where
+      pub all : linesBefore (take filled output) (ahead progress s p (drop filled output) (borrowed memory latches)) ≡ gathered s₀ xs p₀ ended output₀ (borrowed memory₀ latches₀)
       pub fits : filled ≤ length output
       pub output-size : length output ≡ length output₀
       pub memory-size : length memory ≡ length memory₀
@@ -166,9 +166,9 @@ module _ (xs : List ℕ) (ended : Bool) where
     going-start =
         record { all = refl; fits = omega arith; output-size = refl; memory-size = refl; latches-size = refl }
 
-    module _ {output memory latches : List ℕ} {s : Session} {p filled number : ℕ} (w : Going output memory latches s p filled number) where
-      module _ {r : Step} {o m l : List ℕ} (goes : number ≡ 0) (e : (outcome r o m l ≡ stepBehind filled s xs p ended output (borrowed memory latches)) × (filled + r .length ≤ length output)) where
-        pub going-more : length o ≡ length output → length m ≡ length memory → length l ≡ length latches → Going o m l (r .session) (r .next) (filled + r .length) (r .number)
+    module _ {output memory latches : List ℕ} {s : Session} {p filled progress : ℕ} (w : Going output memory latches s p filled progress) where
+      module _ {r : Step} {o m l : List ℕ} (goes : progress ≡ 0) (e : (outcome r o m l ≡ stepBehind filled s xs p ended output (borrowed memory latches)) × (filled + r .length ≤ length output)) where
+        pub going-more : length o ≡ length output → length m ≡ length memory → length l ≡ length latches → Going o m l (r .session) (r .next) (filled + r .length) (r .progress)
         unfolding ahead pick stepBehind
         going-more h i j =
             record {
@@ -183,32 +183,32 @@ module _ (xs : List ℕ) (ended : Bool) where
             }
 
         -- the place comes nearer to the end of the bytes at hand, or the loop ends
-        pub going-less : toGo xs (r .number) (r .next) < toGo xs number p
+        pub going-less : toGo xs (r .progress) (r .next) < toGo xs progress p
         unfolding toGo stepBehind
         going-less = let
-            all : toGo xs number p ≡ suc (length xs - p) = pick-true _ _ _ (eq-eqb number 0 goes)
+            all : toGo xs progress p ≡ suc (length xs - p) = pick-true _ _ _ (eq-eqb progress 0 goes)
             in
-            pick-cases (λ (k : ℕ). k < toGo xs number p) (eqb (r .number) 0) _ _
+            pick-cases (λ (k : ℕ). k < toGo xs progress p) (eqb (r .progress) 0) _ _
             (λ q. let
             t : Taken xs p (r .next) =
-            subst (λ (x : Outcome). x .said .step .number ≡ 0 → Taken xs p (x .said .step .next)) (sym (e .0))
+            subst (λ (x : Outcome). x .said .step .progress ≡ 0 → Taken xs p (x .said .step .next)) (sym (e .0))
             (step-takes s xs p ended (drop filled output) (borrowed memory latches))
-            (eqb-true (r .number) 0 q)
+            (eqb-true (r .progress) 0 q)
             in
             omega (arith, all))
             (λ q. omega (arith, all))
 
       -- the answer, with the lines up to a place and the rest of the slice behind them
       abbrev answer : ℕ → List ℕ → Left
-      answer k x = left (record { session = s; at = p; filled = k; number = number }) x memory latches
+      answer k x = left (record { session = s; at = p; filled = k; progress = progress }) x memory latches
 
-      pub going-end : (number ≡ 0 → ⊥) → answer filled output ≡ leftBy (gathered s₀ xs p₀ ended output₀ (borrowed memory₀ latches₀))
+      pub going-end : (progress ≡ 0 → ⊥) → answer filled output ≡ leftBy (gathered s₀ xs p₀ ended output₀ (borrowed memory₀ latches₀))
       unfolding ahead
       going-end stops = let
           lines : List ℕ = take filled output
           in
           sym
-          (sym (ap leftBy (ap (linesBefore lines) (sym (pick-false _ _ _ (ne-eqb number 0 stops))) ∙ w .all))
+          (sym (ap leftBy (ap (linesBefore lines) (sym (pick-false _ _ _ (ne-eqb progress 0 stops))) ∙ w .all))
           ∙ ap (λ (x : List ℕ). answer (length x) (x ++ drop filled output)) (append-nil lines)
           ∙ ap (λ (k : ℕ). answer k (lines ++ drop filled output)) (length-take-le filled output (w .fits))
           ∙ ap (answer filled) (take-append-drop filled output))

@@ -15,7 +15,7 @@ use Rattle.bench.specs.Working.{Gathered, linesBefore, gathered}
 abbrev pub placeFarther : ℕ → Gathered → Gathered
 placeFarther k g =
     record {
-      number = g .number;
+      progress = g .progress;
       session = g .session;
       next = k + g .next;
       lines = g .lines;
@@ -28,6 +28,6 @@ placeFarther k g =
 abbrev pub PiecesGathered : Session → List ℕ → ℕ → List ℕ → Buffers (List ℕ) → List ℕ → Bool → Type 0
 PiecesGathered s xs p out b ys ended =
     let g : Gathered = gathered s xs p false out b in
-    g .number ≡ needsBytes
+    g .progress ≡ needsBytes
     → gathered s (xs ++ ys) p ended out b
     ≡ linesBefore (g .lines) (placeFarther (g .next) (gathered (g .session) (drop (g .next) (xs ++ ys)) 0 ended (g .unused) (g .buffers)))

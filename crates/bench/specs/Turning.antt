@@ -56,8 +56,8 @@ Stays s g stopped input r input′ = (r ≡ stateBehind s g stopped) × (input�
 unfoldable pub NextTurn : Bool → State → Gathered → List ℕ → State → List ℕ → Type 0
 NextTurn written s g input r input′ =
     pick written
-    (pick (eqb (g .number) isOver) (Stays s g true input r input′)
-    (pick (eqb (g .number) needsBytes) (Refilled (stateBehind s g (s .stopped)) input r input′) (Stays s g (s .stopped) input r input′)))
+    (pick (eqb (g .progress) isOver) (Stays s g true input r input′)
+    (pick (eqb (g .progress) needsBytes) (Refilled (stateBehind s g (s .stopped)) input r input′) (Stays s g (s .stopped) input r input′)))
     (Stays s g true input r input′)
 
 -- a turn: the lines at the front of the output buffer, memory and latches are those of the steps

@@ -9,7 +9,7 @@ use lib.ListN.{length, take, drop}
 use Rattle.rules.specs.Choice.{pick}
 use Rattle.rules.specs.Buffers.{Buffers}
 use Rattle.session.specs.Steps.{goesOn, Outcome, stepOf}
-use Rattle.runs.specs.Sessions.{lineIn}
+use Rattle.runs.specs.Stepping.{lineIn}
 use Rattle.session.specs.declared.step.Session.{Session}
 use Rattle.bench.specs.Buffered.{atHand}
 use Rattle.bench.specs.declared.State.{State}
@@ -21,10 +21,10 @@ stepBehind filled s xs p ended out b =
     let o : Outcome = stepOf s xs p ended (drop filled out) b in
     record { said = record { step = o .said .step; line = take filled out ++ o .said .line }; buffers = o .buffers }
 
--- what steps come to: the last one's number, session and next place; the lines of all, in order; what of the slice for
+-- what steps come to: the last one's progress, session and next place; the lines of all, in order; what of the slice for
 -- them is left; both buffers
 pub record Gathered : Type 0 where
-  pub number : ℕ
+  pub progress : ℕ
   pub session : Session
   pub next : ℕ
   pub lines : List ℕ
@@ -39,7 +39,7 @@ behindLine o = drop (o .said .step .length) (o .said .line)
 abbrev pub gatheredOnce : Outcome → Gathered
 gatheredOnce o =
     record {
-      number = o .said .step .number;
+      progress = o .said .step .progress;
       session = o .said .step .session;
       next = o .said .step .next;
       lines = lineIn o;
@@ -51,7 +51,7 @@ gatheredOnce o =
 abbrev pub linesBefore : List ℕ → Gathered → Gathered
 linesBefore line g =
     record {
-      number = g .number;
+      progress = g .progress;
       session = g .session;
       next = g .next;
       lines = line ++ g .lines;
@@ -66,7 +66,7 @@ unfoldable pub gatheredFrom : ℕ → Session → List ℕ → ℕ → Bool → 
 gatheredFrom zero s xs p ended out b = gatheredOnce (stepOf s xs p ended out b)
 gatheredFrom (suc most) s xs p ended out b =
     let o : Outcome = stepOf s xs p ended out b in
-    pick (eqb (o .said .step .number) goesOn)
+    pick (eqb (o .said .step .progress) goesOn)
     (linesBefore (lineIn o) (gatheredFrom most (o .said .step .session) xs (o .said .step .next) ended (behindLine o) (o .buffers)))
     (gatheredOnce o)
 
@@ -76,7 +76,7 @@ gathered s xs p ended out b = gatheredFrom (length xs) s xs p ended out b
 
 -- no step is left out: the last one does not go on, and to allow for more changes nothing
 pub record AllGathered (s : Session) (xs : List ℕ) (p : ℕ) (ended : Bool) (out : List ℕ) (b : Buffers (List ℕ)) : Type 0 where
-  pub stops : gathered s xs p ended out b .number ≡ goesOn → ⊥
+  pub stops : gathered s xs p ended out b .progress ≡ goesOn → ⊥
   pub more : (n : ℕ) → gatheredFrom (n + length xs) s xs p ended out b ≡ gathered s xs p ended out b
 
 -- from where the program is, with its input and its output buffer
@@ -97,7 +97,7 @@ left worked output memory latches =
 abbrev pub leftBy : Gathered → Left
 leftBy g =
     record {
-      worked = record { session = g .session; at = g .next; filled = length (g .lines); number = g .number };
+      worked = record { session = g .session; at = g .next; filled = length (g .lines); progress = g .progress };
       output = g .lines ++ g .unused;
       buffers = g .buffers;
     }

@@ -26,12 +26,12 @@ struct State {
     stopped: bool,
 }
 
-// Where it is when the bytes at hand are worked through, and the number of the last step.
+// Where it is when the bytes at hand are worked through, and the progress of the last step.
 struct Worked {
     session: Session,
     at: usize,
     filled: usize,
-    number: u8,
+    progress: u8,
 }
 
 // Writes the lines that have gathered, and answers whether it could. Where the program was and what was at hand say in the
@@ -102,8 +102,8 @@ fn work(
     let mut session = state.session;
     let mut at = state.at;
     let mut filled = 0;
-    let mut number = step::GOES_ON;
-    while number == step::GOES_ON {
+    let mut progress = step::GOES_ON;
+    while progress == step::GOES_ON {
         let done = one_step(
             session,
             input,
@@ -118,13 +118,13 @@ fn work(
         session = done.session;
         at = done.next;
         filled += done.length;
-        number = done.number;
+        progress = done.progress;
     }
     Worked {
         session,
         at,
         filled,
-        number,
+        progress,
     }
 }
 
@@ -172,11 +172,11 @@ fn turn(
         next.stopped = true;
         return next;
     }
-    if worked.number == step::IS_OVER {
+    if worked.progress == step::IS_OVER {
         next.stopped = true;
         return next;
     }
-    if worked.number == step::WAITS {
+    if worked.progress == step::WAITS {
         return refill(next, input);
     }
     next

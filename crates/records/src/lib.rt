@@ -1,7 +1,7 @@
 // The records of a session's bytes.
 ghost use mathlib.Core.Path.{_≡_};
 ghost use Prim.Native.Nat.{_+_, _*_, _≤_, _<_};
-ghost use lib.ListN.{length, getD};
+ghost use lib.ListN.{length, getD, set};
 ghost use Rattle.records.specs.Records.{word, quad, short, behind, writeRecord, readRecord, grantRecord, memoryRecord, ofKind, recordAt, longLength};
 ghost use Rattle.records.specs.Records.{none as noRecord};
 
@@ -59,6 +59,26 @@ pub fn index(x: u16) -> usize
     ensures { λ r. ⌜ (r ≡ x) × (r ≤ 65535) ⌝ }
 {
     x as usize
+}
+
+// The byte at a place, 0 behind the last.
+pub fn byte_at(input: &[u8], place: usize) -> u8
+    ensures { λ r. ⌜ r ≡ getD (now (input .entry)) place 0 ⌝ }
+{
+    if place < input.len() {
+        return input[place];
+    }
+    0
+}
+
+// A byte is put at a place; behind the last nothing is put.
+pub fn put_at(bytes: &mut [u8], place: usize, byte: u8)
+    ensures { λ r. ⌜ now (bytes .exit) ≡ set (now (bytes .entry)) place byte ⌝ }
+{
+    if place < bytes.len() {
+        bytes[place] = byte;
+        return;
+    }
 }
 
 // The number of the two bytes at a place, high byte first.
@@ -250,16 +270,6 @@ pub fn long_length(input: &[u8], place: usize) -> usize
     let n = index(word_at(input, place));
     if LONGEST < n {
         return n;
-    }
-    0
-}
-
-// The byte at a place, 0 behind the last.
-pub fn byte_at(input: &[u8], place: usize) -> u8
-    ensures { λ r. ⌜ r ≡ getD (now (input .entry)) place 0 ⌝ }
-{
-    if place < input.len() {
-        return input[place];
     }
     0
 }

@@ -1,7 +1,5 @@
-pub mod Entries
-pub mod Runs
+pub mod Sessions
 pub mod Stepping
-pub mod Faults
 pub mod Pieces
 pub mod Moving
 pub mod RoundTrip

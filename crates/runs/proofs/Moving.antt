@@ -14,10 +14,10 @@ use Rattle.rules.proofs.Choice.{pick-true, pick-ap, either}
 use Rattle.records.specs.Records.{word, recordAt, longLength}
 use Rattle.session.specs.Effects.{pokes, entryOf}
 use Rattle.session.specs.Steps.{Said, Outcome, inPhase, withoutLine, buffersKept, lastFault, carried, systemWith, versionStep, longStep, byRecord, recordStep, stepOf}
-use Rattle.runs.specs.Pieces.{farther, StepMoves}
+use Rattle.runs.specs.Moving.{farther, StepMoves}
 use Rattle.records.specs.declared.Record.{Record}
 use Rattle.session.specs.declared.step.Session.{Session}
-use Rattle.runs.proofs.Pieces.{without-room, at-version, at-record, at-long, at-over}
+use Rattle.session.proofs.Steps.{without-room, at-version, at-record, at-long, at-over}
 use Rattle.records.proofs.Choosing.{same, lift}
 use Rattle.records.proofs.Moving.{byte-moves, moved, test-here, record-moves, long-moves}
 
@@ -49,8 +49,8 @@ module _ (k : ℕ) (xs : List ℕ) where
 
 module _ (k : ℕ) (s : Session) (out : List ℕ) (b : Buffers (List ℕ)) where
   -- an answer without and with buffers, its next place farther on
-  quiet-moves : (number : ℕ) (t : Session) (n n′ : ℕ) → n′ ≡ k + n → buffersKept b (withoutLine number n′ t out) ≡ farther k (buffersKept b (withoutLine number n t out))
-  quiet-moves number t n n′ e = ap (λ (m : ℕ). buffersKept b (withoutLine number m t out)) e
+  quiet-moves : (progress : ℕ) (t : Session) (n n′ : ℕ) → n′ ≡ k + n → buffersKept b (withoutLine progress n′ t out) ≡ farther k (buffersKept b (withoutLine progress n t out))
+  quiet-moves progress t n n′ e = ap (λ (m : ℕ). buffersKept b (withoutLine progress m t out)) e
 
   fault-moves : (number n n′ : ℕ) → n′ ≡ k + n → buffersKept b (lastFault number n′ (s .device) out) ≡ farther k (buffersKept b (lastFault number n (s .device) out))
   fault-moves number n n′ e = ap (λ (m : ℕ). buffersKept b (lastFault number m (s .device) out)) e

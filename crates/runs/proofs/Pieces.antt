@@ -18,6 +18,7 @@ use Rattle.session.specs.Steps.{Said, Outcome, inPhase, withoutLine, buffersKep
 use Rattle.runs.specs.Pieces.{next, StepStands}
 use Rattle.records.specs.declared.Record.{Record}
 use Rattle.session.specs.declared.step.Session.{Session}
+use Rattle.session.proofs.Steps.{without-room, at-version, at-record, at-long, at-over}
 use Rattle.records.proofs.Choosing.{same}
 use Rattle.records.proofs.Standing.{stands-kind, long-there}
 use Rattle.records.proofs.Pieces.{longer, byte-stays, waits-behind, waits-length, waits-bytes, whole, record-is, record-stays, long-stays, Within, within}
@@ -43,42 +44,22 @@ module _ (xs ys : List ℕ) where
       ap outsideChange (pokes-stay (r .next - r .start) (r .start) (r .word) (omega (arith, i .0, i .1))))
       (λ h. refl))))
 
--- ---- a step by the session's phase
+-- ---- a step as a function of the bytes
 
 module _ (s : Session) (out : List ℕ) (b : Buffers (List ℕ)) where
-  pub without-room : ltb (length out) 72 ≡ true → (xs : List ℕ) (p : ℕ) (e : Bool) → stepOf s xs p e out b ≡ buffersKept b (withoutLine 9 p s out)
-  unfolding stepOf pick
-  without-room r xs p e = simp r
-
-  pub at-version : ltb (length out) 72 ≡ false → eqb (s .phase) 0 ≡ true → (xs : List ℕ) (p : ℕ) (e : Bool) → stepOf s xs p e out b ≡ buffersKept b (versionStep s xs p e out)
-  unfolding stepOf pick
-  at-version r f xs p e = simp (r, f)
-
-  pub at-record : ltb (length out) 72 ≡ false → eqb (s .phase) 0 ≡ false → eqb (s .phase) 1 ≡ true → (xs : List ℕ) (p : ℕ) (e : Bool) → stepOf s xs p e out b ≡ recordStep s xs p e out b
-  unfolding stepOf pick
-  at-record r f g xs p e = simp (r, f, g)
-
-  pub at-long : ltb (length out) 72 ≡ false → eqb (s .phase) 0 ≡ false → eqb (s .phase) 1 ≡ false → eqb (s .phase) 2 ≡ true → (xs : List ℕ) (p : ℕ) (e : Bool) → stepOf s xs p e out b ≡ buffersKept b (longStep s xs p e out)
-  unfolding stepOf pick
-  at-long r f g h xs p e = simp (r, f, g, h)
-
-  pub at-over : ltb (length out) 72 ≡ false → eqb (s .phase) 0 ≡ false → eqb (s .phase) 1 ≡ false → eqb (s .phase) 2 ≡ false → (xs : List ℕ) (p : ℕ) (e : Bool) → stepOf s xs p e out b ≡ buffersKept b (withoutLine 2 p s out)
-  unfolding stepOf pick
-  at-over r f g h xs p e = simp (r, f, g, h)
-
   module _ (xs ys : List ℕ) (p : ℕ) (ended : Bool) where
     -- a step that is some function of the bytes stands where that function does
-    by-function : (F : List ℕ → Bool → Outcome) → ((zs : List ℕ) (e : Bool) → stepOf s zs p e out b ≡ F zs e) → ((F xs false .said .step .number ≡ 1 → ⊥) → F (xs ++ ys) ended ≡ F xs false) → (F xs false .said .step .number ≡ 1 → next (F xs false) (xs ++ ys) ended ≡ F (xs ++ ys) ended) → StepStands s xs p out b ys ended
+    by-function : (F : List ℕ → Bool → Outcome) → ((zs : List ℕ) (e : Bool) → stepOf s zs p e out b ≡ F zs e) → ((F xs false .said .step .progress ≡ 1 → ⊥) → F (xs ++ ys) ended ≡ F xs false) → (F xs false .said .step .progress ≡ 1 → next (F xs false) (xs ++ ys) ended ≡ F (xs ++ ys) ended) → StepStands s xs p out b ys ended
     by-function F e f g =
         record {
-          stands = λ n. e (xs ++ ys) ended ∙ f (λ z. n (ap (λ (o : Outcome). o .said .step .number) (e xs false) ∙ z)) ∙ sym (e xs false);
+          stands = λ n. e (xs ++ ys) ended ∙ f (λ z. n (ap (λ (o : Outcome). o .said .step .progress) (e xs false) ∙ z)) ∙ sym (e xs false);
           waits = λ n. ap (λ (o : Outcome). next o (xs ++ ys) ended) (e xs false)
-              ∙ g (sym (ap (λ (o : Outcome). o .said .step .number) (e xs false)) ∙ n)
+              ∙ g (sym (ap (λ (o : Outcome). o .said .step .progress) (e xs false)) ∙ n)
               ∙ sym (e (xs ++ ys) ended);
         }
 
     -- a step that does not look at the bytes
-    by-none : (o : Outcome) → (o .said .step .number ≡ 1 → ⊥) → ((zs : List ℕ) (e : Bool) → stepOf s zs p e out b ≡ o) → StepStands s xs p out b ys ended
+    by-none : (o : Outcome) → (o .said .step .progress ≡ 1 → ⊥) → ((zs : List ℕ) (e : Bool) → stepOf s zs p e out b ≡ o) → StepStands s xs p out b ys ended
     by-none o n e = by-function (λ zs f. o) e (λ m. refl) (λ m. absurd (n m))
 
     -- ---- the version
@@ -98,21 +79,21 @@ module _ (s : Session) (out : List ℕ) (b : Buffers (List ℕ)) where
         ∙ sym (version-is xs false h)
 
     -- a version that is there does not wait
-    version-goes : p < length xs → versionStep s xs p false out .step .number ≡ 1 → ⊥
-    version-goes h n = goes (ap (λ (x : Said). x .step .number) (sym (version-is xs false h)) ∙ n)
+    version-goes : p < length xs → versionStep s xs p false out .step .progress ≡ 1 → ⊥
+    version-goes h n = goes (ap (λ (x : Said). x .step .progress) (sym (version-is xs false h)) ∙ n)
       where
-        goes : pick (eqb (getD xs p 0) 1) (withoutLine 0 (p + 1) (inPhase 1 0 (s .device)) out) (lastFault 20 (p + 1) (s .device) out) .step .number ≡ 1 → ⊥
-        goes = pick-both (λ (x : Said). x .step .number ≡ 1 → ⊥) _ _ _ (λ e. omega (arith, e)) (λ e. omega (arith, e))
+        goes : pick (eqb (getD xs p 0) 1) (withoutLine 0 (p + 1) (inPhase 1 0 (s .device)) out) (lastFault 20 (p + 1) (s .device) out) .step .progress ≡ 1 → ⊥
+        goes = pick-both (λ (x : Said). x .step .progress ≡ 1 → ⊥) _ _ _ (λ e. omega (arith, e)) (λ e. omega (arith, e))
 
     version : ltb (length out) 72 ≡ false → eqb (s .phase) 0 ≡ true → StepStands s xs p out b ys ended
     version r f =
-        by-function (λ zs e. buffersKept b (versionStep s zs p e out)) (λ zs e. at-version r f zs p e)
+        by-function (λ zs e. buffersKept b (versionStep s zs p e out)) (λ zs e. at-version s out b r f zs p e)
         (λ n. either (leb (length xs) p)
-        (λ e. absurd (n (ap (λ (x : Said). x .step .number) (version-waits (leb-true (length xs) p e)))))
+        (λ e. absurd (n (ap (λ (x : Said). x .step .progress) (version-waits (leb-true (length xs) p e)))))
         (λ e. ap (buffersKept b) (version-stays (leb-false (length xs) p e))))
         (λ n. either (leb (length xs) p)
         (λ e. ap (λ (x : Said). next (buffersKept b x) (xs ++ ys) ended) (version-waits (leb-true (length xs) p e))
-        ∙ at-version r f (xs ++ ys) p ended)
+        ∙ at-version s out b r f (xs ++ ys) p ended)
         (λ e. absurd (version-goes (leb-false (length xs) p e) n)))
 
 -- ---- within a record that is too long
@@ -169,9 +150,9 @@ module _ (s : Session) (out : List ℕ) (b : Buffers (List ℕ)) (xs ys : List �
       in
       ap (buffersKept b)
       (long-whole s out (xs ++ ys) p ended (omega (arith, k, longer xs ys)) ∙ sym (long-whole s out xs p false k)))
-      (λ e. absurd (n (ap (λ (x : Said). x .step .number) (waiting (leb-false (s .left) (length xs - p) e))))))
+      (λ e. absurd (n (ap (λ (x : Said). x .step .progress) (waiting (leb-false (s .left) (length xs - p) e))))))
       (λ n. either (leb (s .left) (length xs - p))
-      (λ e. absurd (two (sym (ap (λ (x : Said). x .step .number) (long-whole s out xs p false (leb-true (s .left) (length xs - p) e))) ∙ n)))
+      (λ e. absurd (two (sym (ap (λ (x : Said). x .step .progress) (long-whole s out xs p false (leb-true (s .left) (length xs - p) e))) ∙ n)))
       (λ e. ap (λ (x : Said). next (buffersKept b x) (xs ++ ys) ended) (waiting (leb-false (s .left) (length xs - p) e))
       ∙ at-long (inPhase 2 (s .left - (length xs - p)) (s .device)) out b r refl refl refl (xs ++ ys) (p + (length xs - p)) ended
       ∙ ap (buffersKept b) (long-moves s out xs ys p ended (leb-false (s .left) (length xs - p) e))))
@@ -198,13 +179,13 @@ module _ (s : Session) (out : List ℕ) (b : Buffers (List ℕ)) where
   unfolding byRecord pick
   by-record-waits zs p = refl
 
-  by-record-goes : (r : Record) (zs : List ℕ) → (r .number ≡ 0 → ⊥) → byRecord r s zs out b .said .step .number ≡ 1 → ⊥
+  by-record-goes : (r : Record) (zs : List ℕ) → (r .number ≡ 0 → ⊥) → byRecord r s zs out b .said .step .progress ≡ 1 → ⊥
   unfolding byRecord
   by-record-goes r zs h =
-      pick-cases (λ (o : Outcome). o .said .step .number ≡ 1 → ⊥) (eqb (r .number) 0) _ _
+      pick-cases (λ (o : Outcome). o .said .step .progress ≡ 1 → ⊥) (eqb (r .number) 0) _ _
       (λ e. absurd (h (eqb-true (r .number) 0 e)))
-      (λ e. pick-both (λ (o : Outcome). o .said .step .number ≡ 1 → ⊥) _ _ _ (λ z. omega (arith, z))
-      (pick-both (λ (o : Outcome). o .said .step .number ≡ 1 → ⊥) _ _ _ (λ z. omega (arith, z)) (λ z. omega (arith, z))))
+      (λ e. pick-both (λ (o : Outcome). o .said .step .progress ≡ 1 → ⊥) _ _ _ (λ z. omega (arith, z))
+      (pick-both (λ (o : Outcome). o .said .step .progress ≡ 1 → ⊥) _ _ _ (λ z. omega (arith, z)) (λ z. omega (arith, z))))
 
   -- a record does the same with any bytes that give the same entry
   by-record-stays : (r : Record) (zs xs : List ℕ) → entryOf zs r ≡ entryOf xs r → byRecord r s zs out b ≡ byRecord r s xs out b
@@ -252,15 +233,15 @@ module _ (s : Session) (out : List ℕ) (b : Buffers (List ℕ)) where
         by-function s out b xs ys p ended (λ zs e. recordStep s zs p e out b) (λ zs e. at-record s out b r f g zs p e)
         (λ n. either (eqb (longLength xs p) 0)
         (λ l. short-stands (eqb-true (longLength xs p) 0 l)
-        (λ z. n (ap (λ (o : Outcome). o .said .step .number) (waiting (eqb-true (longLength xs p) 0 l) z))))
+        (λ z. n (ap (λ (o : Outcome). o .said .step .progress) (waiting (eqb-true (longLength xs p) 0 l) z))))
         (λ l. long-stands (eqb-false (longLength xs p) 0 l)))
         (λ n. either (eqb (longLength xs p) 0)
         (λ l. either (eqb (recordAt xs p false .number) 0)
         (λ z. ap (λ (o : Outcome). next o (xs ++ ys) ended) (waiting (eqb-true (longLength xs p) 0 l) (eqb-true (recordAt xs p false .number) 0 z))
         ∙ at-record s out b r f g (xs ++ ys) p ended)
         (λ z. absurd (by-record-goes (recordAt xs p false) xs (eqb-false (recordAt xs p false .number) 0 z)
-        (sym (ap (λ (o : Outcome). o .said .step .number) (step-short xs p false (eqb-true (longLength xs p) 0 l))) ∙ n))))
-        (λ l. absurd (zero-one (sym (ap (λ (o : Outcome). o .said .step .number) (step-long xs p false (eqb-false (longLength xs p) 0 l))) ∙ n))))
+        (sym (ap (λ (o : Outcome). o .said .step .progress) (step-short xs p false (eqb-true (longLength xs p) 0 l))) ∙ n))))
+        (λ l. absurd (zero-one (sym (ap (λ (o : Outcome). o .said .step .progress) (step-long xs p false (eqb-false (longLength xs p) 0 l))) ∙ n))))
       where
         waiting : longLength xs p ≡ 0 → recordAt xs p false .number ≡ 0 → recordStep s xs p false out b ≡ buffersKept b (withoutLine 1 p s out)
         waiting l z =

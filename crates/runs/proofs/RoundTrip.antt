@@ -12,9 +12,7 @@ use lib.ListN.{length, getD, drop, length-append, length-drop, drop-of-length-le
 use lib.Seq.{drop-drop, drop-append-seam}
 use Rattle.rules.specs.Choice.{pick}
 use Rattle.rules.specs.Bytes.{AreBytes}
-use Rattle.rules.specs.Buffers.{flat}
-use Rattle.rules.specs.World.{System}
-use Rattle.rules.specs.Entries.{Poke, Entry, outsideChange}
+use Rattle.rules.specs.Entries.{Poke, outsideChange}
 use Rattle.rules.proofs.Choice.{pick-true, pick-false, either}
 use Rattle.records.specs.Records.{recordAt}
 use Rattle.records.specs.Encoding.{SessionRecord, toWrite, toRead, toGrant, toMemory, InRange, twoBytes, kindAndArguments, recordBytes}
@@ -23,8 +21,8 @@ use Rattle.records.proofs.Bytes.{bytes-join, bytes-drop}
 use Rattle.records.proofs.Standing.{stands, at-end}
 use Rattle.records.proofs.Moving.{moved, record-moves}
 use Rattle.records.proofs.Encoding.{found, reads-back, is-found, are-bytes, comes}
-use Rattle.session.specs.Effects.{pokes, entryOf, effect}
-use Rattle.runs.specs.Sessions.{Ended, start, recordsFrom, session, decodedFrom, decoded, entriesOf}
+use Rattle.session.specs.Effects.{pokes, entryOf}
+use Rattle.runs.specs.Sessions.{Decoded, endsBy, recordBefore, decodedFrom, decoded, entriesOf}
 use Rattle.runs.specs.RoundTrip.{AllInRange, recordsBytes, sessionBytes, bytesFrom, entryFor, entriesFor, EncodedReadsBack, FaultlessIsEncoded}
 use Rattle.runs.proofs.Moving.{pokes-move, entry-moves}
 
@@ -69,13 +67,7 @@ module _ (xs : List ℕ) (p : ℕ) where
 
   -- a record stands there
   module _ (e : recordAt xs p true .number ≡ 5 → ⊥) (f : recordAt xs p true .number < 20) (most : ℕ) where
-    fault-behind : (s : System (List ℕ)) → recordsFrom (suc most) xs p s .fault ≡ recordsFrom most xs (recordAt xs p true .next) (effect xs (recordAt xs p true) s .system) .fault
-    unfolding recordsFrom
-    fault-behind s =
-        ap (λ (x : Ended). x .fault)
-        (pick-false _ _ _ (ne-eqb (recordAt xs p true .number) 5 e) ∙ pick-false _ _ _ (lt-leb 20 (recordAt xs p true .number) f))
-
-    decoded-behind : decodedFrom (suc most) xs p ≡ recordAt xs p true ∷ decodedFrom most xs (recordAt xs p true .next)
+    decoded-behind : decodedFrom (suc most) xs p ≡ recordBefore (recordAt xs p true) (decodedFrom most xs (recordAt xs p true .next))
     unfolding decodedFrom
     decoded-behind =
         pick-false _ _ _ (ne-eqb (recordAt xs p true .number) 5 e) ∙ pick-false _ _ _ (lt-leb 20 (recordAt xs p true .number) f)
@@ -84,28 +76,17 @@ module _ (xs : List ℕ) (p : ℕ) where
     takes = stands xs p .takes e (λ h. omega arith)
 
   -- the end stands there
-  module _ (h : length xs ≤ p) where
-    fault-end : (most : ℕ) (s : System (List ℕ)) → recordsFrom most xs p s .fault ≡ 0
-    unfolding recordsFrom
-    fault-end zero s = refl
-    fault-end (suc most) s =
-        ap (λ (x : Ended). x .fault) (pick-true _ _ _ (eq-eqb (recordAt xs p true .number) 5 (ap (λ (r : Record). r .number) (at-end xs p h))))
-
-    decoded-end : (most : ℕ) → decodedFrom most xs p ≡ []
-    unfolding decodedFrom
-    decoded-end zero = refl
-    decoded-end (suc most) =
-        pick-true _ _ _ (eq-eqb (recordAt xs p true .number) 5 (ap (λ (r : Record). r .number) (at-end xs p h)))
+  decoded-end : length xs ≤ p → (most : ℕ) → decodedFrom most xs p ≡ endsBy 0
+  unfolding decodedFrom
+  decoded-end h zero = refl
+  decoded-end h (suc most) =
+      pick-true _ _ _ (eq-eqb (recordAt xs p true .number) 5 (ap (λ (r : Record). r .number) (at-end xs p h)))
 
 -- ---- a session, by its version
 
-fault-version : (xs : List ℕ) → eqb (getD xs 0 0) 1 ≡ false → session xs .fault ≡ 20
-unfolding session pick
-fault-version xs e = simp e
-
-fault-records : (xs : List ℕ) → eqb (getD xs 0 0) 1 ≡ true → session xs .fault ≡ recordsFrom (length xs) xs 1 start .fault
-unfolding session
-fault-records xs e = ap (λ (x : Ended). x .fault) (pick-true _ _ _ e)
+decoded-version : (xs : List ℕ) → eqb (getD xs 0 0) 1 ≡ false → decoded xs ≡ endsBy 20
+unfolding decoded
+decoded-version xs e = pick-false _ _ _ e
 
 decoded-records : (xs : List ℕ) → eqb (getD xs 0 0) 1 ≡ true → decoded xs ≡ decodedFrom (length xs) xs 1
 unfolding decoded
@@ -150,27 +131,29 @@ module _ (xs : List ℕ) where
   none-left : (p : ℕ) → drop p xs ≡ [] → length xs ≤ p
   none-left p e = omega (arith, ap length e, length-drop p xs)
 
-  no-fault : (rs : List SessionRecord) (most p : ℕ) (s : System (List ℕ)) → drop p xs ≡ recordsBytes rs → length xs < p + most → AllInRange rs → recordsFrom most xs p s .fault ≡ 0
-  unfolding recordsBytes AllInRange
-  no-fault [] most p s e l h = fault-end xs p (none-left p e) most s
-  no-fault (r ∷ rs) zero p s e l h = absurd (omega (arith, some p r (recordsBytes rs) e))
-  no-fault (r ∷ rs) (suc most) p s e l h =
-      fault-behind xs p (here p r (recordsBytes rs) e (h .0)) (right p r (recordsBytes rs) e (h .0)) most s
-      ∙ no-fault rs most (recordAt xs p true .next) _ (behind p r (recordsBytes rs) e (h .0))
-      (omega (arith, l, takes xs p (here p r (recordsBytes rs) e (h .0)) (right p r (recordsBytes rs) e (h .0)) most))
-      (h .1)
+  -- what is decoded from a place on: no fault, and the entries of these records
+  record Reads (rs : List SessionRecord) (d : Decoded) : Type 0 where
+    fault : d .fault ≡ 0
+    entries : entriesOf xs (d .records) ≡ entriesFor rs
 
-  these-entries : (rs : List SessionRecord) (most p : ℕ) → drop p xs ≡ recordsBytes rs → length xs < p + most → AllInRange rs → entriesOf xs (decodedFrom most xs p) ≡ entriesFor rs
-  unfolding recordsBytes AllInRange entriesOf entriesFor
-  these-entries [] most p e l h = ap (entriesOf xs) (decoded-end xs p (none-left p e) most)
-  these-entries (r ∷ rs) zero p e l h = absurd (omega (arith, some p r (recordsBytes rs) e))
-  these-entries (r ∷ rs) (suc most) p e l h =
-      ap (entriesOf xs) (decoded-behind xs p (here p r (recordsBytes rs) e (h .0)) (right p r (recordsBytes rs) e (h .0)) most)
-      ∙ ap (λ (x : Entry flat (List Poke)). x ∷ entriesOf xs (decodedFrom most xs (recordAt xs p true .next))) (entry p r (recordsBytes rs) e (h .0))
-      ∙ ap (λ (es : List (Entry flat (List Poke))). entryFor r ∷ es)
-      (these-entries rs most (recordAt xs p true .next) (behind p r (recordsBytes rs) e (h .0))
-      (omega (arith, l, takes xs p (here p r (recordsBytes rs) e (h .0)) (right p r (recordsBytes rs) e (h .0)) most))
-      (h .1))
+  reads-none : Reads [] (endsBy 0)
+  unfolding entriesOf entriesFor
+  reads-none = record { fault = refl; entries = refl }
+
+  reads-more : (r : SessionRecord) (rs : List SessionRecord) (x : Record) (d : Decoded) → entryOf xs x ≡ entryFor r → Reads rs d → Reads (r ∷ rs) (recordBefore x d)
+  unfolding entriesOf entriesFor
+  reads-more r rs x d e h = record { fault = h .fault; entries = λ i. e i ∷ h .entries i }
+
+  reads : (rs : List SessionRecord) (most p : ℕ) → drop p xs ≡ recordsBytes rs → length xs < p + most → AllInRange rs → Reads rs (decodedFrom most xs p)
+  unfolding recordsBytes AllInRange
+  reads [] most p e l h = subst (Reads []) (sym (decoded-end xs p (none-left p e) most)) reads-none
+  reads (r ∷ rs) zero p e l h = absurd (omega (arith, some p r (recordsBytes rs) e))
+  reads (r ∷ rs) (suc most) p e l h =
+      let e′ = here p r (recordsBytes rs) e (h .0) in
+      let f′ = right p r (recordsBytes rs) e (h .0) in
+      subst (Reads (r ∷ rs)) (sym (decoded-behind xs p e′ f′ most))
+      (reads-more r rs _ _ (entry p r (recordsBytes rs) e (h .0))
+      (reads rs most (recordAt xs p true .next) (behind p r (recordsBytes rs) e (h .0)) (omega (arith, l, takes xs p e′ f′ most)) (h .1)))
 
 records-bytes : (rs : List SessionRecord) → AllInRange rs → AreBytes (recordsBytes rs)
 unfolding recordsBytes AllInRange AreBytes
@@ -180,15 +163,8 @@ records-bytes (r ∷ rs) h = bytes-join (recordBytes r) (recordsBytes rs) (are-b
 pub encoded-reads-back : EncodedReadsBack
 unfolding sessionBytes AreBytes
 encoded-reads-back rs h =
-    record {
-      bytes = (omega arith, records-bytes rs h);
-      fault =
-          fault-records (sessionBytes rs) refl
-          ∙ no-fault (sessionBytes rs) rs (length (sessionBytes rs)) 1 start refl (omega arith) h;
-      entries =
-          ap (entriesOf (sessionBytes rs)) (decoded-records (sessionBytes rs) refl)
-          ∙ these-entries (sessionBytes rs) rs (length (sessionBytes rs)) 1 refl (omega arith) h;
-    }
+    let whole = subst (Reads (sessionBytes rs) rs) (sym (decoded-records (sessionBytes rs) refl)) (reads (sessionBytes rs) rs (length (sessionBytes rs)) 1 refl (omega arith) h) in
+    record { bytes = (omega arith, records-bytes rs h); fault = whole .fault; entries = whole .entries }
 
 -- ---- from bytes to their records
 
@@ -218,15 +194,14 @@ module _ (xs : List ℕ) (small : AreBytes xs) where
             ∙ w .bytes;
       }
 
-  fault-here : (most p : ℕ) (s : System (List ℕ)) → (recordAt xs p true .number ≡ 5 → ⊥) → 20 ≤ recordAt xs p true .number → recordsFrom (suc most) xs p s .fault ≡ recordAt xs p true .number
-  unfolding recordsFrom
-  fault-here most p s e f =
-      ap (λ (x : Ended). x .fault)
-      (pick-false _ _ _ (ne-eqb (recordAt xs p true .number) 5 e) ∙ pick-true _ _ _ (le-leb 20 (recordAt xs p true .number) f))
+  fault-here : (most p : ℕ) → (recordAt xs p true .number ≡ 5 → ⊥) → 20 ≤ recordAt xs p true .number → decodedFrom (suc most) xs p ≡ endsBy (recordAt xs p true .number)
+  unfolding decodedFrom
+  fault-here most p e f =
+      pick-false _ _ _ (ne-eqb (recordAt xs p true .number) 5 e) ∙ pick-true _ _ _ (le-leb 20 (recordAt xs p true .number) f)
 
-  encoded-from : (most p : ℕ) (s : System (List ℕ)) → length xs < p + most → recordsFrom most xs p s .fault ≡ 0 → EncodedFrom xs p
-  encoded-from zero p s l z = nothing-from p (omega arith)
-  encoded-from (suc most) p s l z =
+  encoded-from : (most p : ℕ) → length xs < p + most → decodedFrom most xs p .fault ≡ 0 → EncodedFrom xs p
+  encoded-from zero p l z = nothing-from p (omega arith)
+  encoded-from (suc most) p l z =
       either (eqb (recordAt xs p true .number) 5)
       (λ e. nothing-from p (stands xs p .ends (eqb-true (recordAt xs p true .number) 5 e)))
       (λ e. let
@@ -236,14 +211,13 @@ module _ (xs : List ℕ) (small : AreBytes xs) where
       (λ f. let
       f′ : 20 ≤ recordAt xs p true .number = leb-true 20 (recordAt xs p true .number) f
       in
-      absurd (omega (arith, f′, fault-here most p s e′ f′, z)))
+      absurd (omega (arith, f′, ap (λ (d : Decoded). d .fault) (fault-here most p e′ f′), z)))
       (λ f. let
       f′ : recordAt xs p true .number < 20 = leb-false 20 (recordAt xs p true .number) f
       in
       record-from p e′ f′
-      (encoded-from most (recordAt xs p true .next) (effect xs (recordAt xs p true) s .system)
-      (omega (arith, l, takes xs p e′ f′ most))
-      (sym (fault-behind xs p e′ f′ most s) ∙ z))))
+      (encoded-from most (recordAt xs p true .next) (omega (arith, l, takes xs p e′ f′ most))
+      (ap (λ (d : Decoded). d .fault) (sym (decoded-behind xs p e′ f′ most)) ∙ z))))
 
 -- the version, and what is behind it
 versioned : (xs : List ℕ) → getD xs 0 0 ≡ 1 → 1 ∷ drop 1 xs ≡ xs
@@ -255,11 +229,11 @@ unfolding sessionBytes
 faultless-is-encoded xs small z =
     either (eqb (getD xs 0 0) 1)
     (λ e. let
-    w = encoded-from xs small (length xs) 1 start (omega arith) (sym (fault-records xs e) ∙ z)
+    w = encoded-from xs small (length xs) 1 (omega arith) (ap (λ (d : Decoded). d .fault) (sym (decoded-records xs e)) ∙ z)
     in
     record {
       records = w .records;
       range = w .range;
       bytes = ap (λ (l : List ℕ). 1 ∷ l) (w .bytes) ∙ versioned xs (eqb-true (getD xs 0 0) 1 e);
     })
-    (λ e. absurd (omega (arith, fault-version xs e, z)))
+    (λ e. absurd (omega (arith, ap (λ (d : Decoded). d .fault) (decoded-version xs e), z)))

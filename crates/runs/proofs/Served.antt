@@ -11,9 +11,9 @@ use Rattle.rules.specs.Reached.{NoneIs, LendsOther, OwnServe}
 use Rattle.rules.proofs.Reached.{answers-reached}
 use Rattle.records.specs.declared.Record.{Record}
 use Rattle.session.specs.Effects.{entryOf}
-use Rattle.runs.specs.Sessions.{start, decoded, entriesOf}
+use Rattle.runs.specs.Sessions.{start, decoded, entriesOf, sessionEntries}
 use Rattle.runs.specs.Served.{EverySessionServed}
-use Rattle.runs.proofs.Entries.{each-kind, session-writes}
+use Rattle.runs.proofs.Sessions.{each-kind, session-writes}
 
 module _ (xs : List ℕ) where
   -- of a run from any system: 4 and 5 are answered to other buffers only, and none is lent
@@ -28,7 +28,7 @@ module _ (xs : List ℕ) where
 
 pub served : EverySessionServed
 served xs small =
-    let answers = answers-reached (replicate 65536 0) (replicate 65536 0) (entriesOf xs (decoded xs)) (session-writes xs small) in
+    let answers = answers-reached (replicate 65536 0) (replicate 65536 0) (sessionEntries xs) (session-writes xs small) in
     let size = length-replicate {A = ℕ} 65536 0 in
-    let serve = buffers-serve xs (decoded xs) start (answers .1 size size) in
+    let serve = buffers-serve xs (decoded xs .records) start (answers .1 size size) in
     record { device = answers .0; memory = serve .0; latches = serve .1 }

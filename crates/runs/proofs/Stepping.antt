@@ -11,7 +11,6 @@ use lib.Dec.{eqb, leb}
 use lib.ListN.{length, getD, List·getD-eq-default}
 use Rattle.rules.specs.Choice.{pick}
 use Rattle.rules.specs.Buffers.{Buffers, placed}
-use Rattle.rules.specs.World.{System}
 use Rattle.rules.specs.Calls.{Answer}
 use Rattle.rules.proofs.Choice.{pick-true, pick-false, either, clash}
 use Rattle.zxndma.specs.Answers.{deviceAtPowerOn}
@@ -20,28 +19,21 @@ use Rattle.records.specs.Records.{none, recordAt, longLength}
 use Rattle.lines.specs.Lines.{recordLine, countsLine, faultLine}
 use Rattle.session.specs.Effects.{effect}
 use Rattle.session.specs.Steps.{Said, Outcome, inPhase, sessionAtStart, deviceOf, systemWith, carried, lastCounts, lastFault, withoutLine, buffersKept, versionStep, longStep, byRecord, recordStep, stepOf}
-use Rattle.runs.specs.Sessions.{Ended, endedBy, lineBefore, recordsFrom, session, start, lineIn, systemIn, stepsFrom, StepsRead, AllRead}
+use Rattle.runs.specs.Sessions.{Decoded, decodedFrom, decoded, Ended, start, session}
+use Rattle.runs.specs.Stepping.{endedBy, lineBefore, lineIn, systemIn, stepsFrom, StepsRead}
 use Rattle.records.specs.declared.Record.{Record}
 use Rattle.records.proofs.Choosing.{both}
 use Rattle.records.proofs.Standing.{Stands, stands, at-end, short-end, long, record-whole, record-cut}
-use Rattle.lines.proofs.Putting.{put-taken, placed-size}
-use Rattle.lines.proofs.Room.{number-room, record-room, counts-room}
+use Rattle.lines.proofs.Lines.{put-taken, placed-size, number-room, record-room, counts-room}
+use Rattle.runs.proofs.Sessions.{played, after, played-end, played-fault, played-from}
 
 -- ---- what follows a step
 
 onward : ℕ → List ℕ → Outcome → Ended
 onward most xs o =
-    pick (eqb (o .said .step .number) 2) (endedBy (lineIn o) (o .said .step .fault) (systemIn o))
+    pick (eqb (o .said .step .progress) 2) (endedBy (lineIn o) (o .said .step .fault) (systemIn o))
     (lineBefore (lineIn o)
     (stepsFrom most (o .said .step .session) xs (o .said .step .next) (o .said .line) (o .buffers)))
-
--- what follows a record, or what stands in place of one
-after : ℕ → List ℕ → Record → System (List ℕ) → Ended
-after most xs r s =
-    pick (eqb (r .number) 5) (endedBy (countsLine (s .clocks)) 0 s)
-    (pick (leb 20 (r .number)) (endedBy (faultLine (r .number)) (r .number) s)
-    (lineBefore (recordLine (r .number) (effect xs r s .answered .number) (effect xs r s .answered .byte))
-    (recordsFrom most xs (r .next) (effect xs r s .system))))
 
 module _ (xs out : List ℕ) (room : 72 ≤ length out) (b : Buffers (List ℕ)) (d : Device) where
   -- the last line
@@ -72,7 +64,7 @@ module _ (xs out : List ℕ) (room : 72 ≤ length out) (b : Buffers (List ℕ))
   step-long p e = pick-false _ _ _ (ne-eqb (longLength xs p) 0 e)
 
   -- a record that was carried out
-  onward-carried : (k most : ℕ) (r : Record) (a : Answer (List ℕ)) → ((out′ : List ℕ) → 72 ≤ length out′ → stepsFrom k (inPhase 1 0 (deviceOf (a .system))) xs (r .next) out′ (a .system .world .buffers) ≡ recordsFrom most xs (r .next) (a .system)) → onward k xs (carried r a out) ≡ lineBefore (recordLine (r .number) (a .answered .number) (a .answered .byte)) (recordsFrom most xs (r .next) (a .system))
+  onward-carried : (k most : ℕ) (r : Record) (a : Answer (List ℕ)) → ((out′ : List ℕ) → 72 ≤ length out′ → stepsFrom k (inPhase 1 0 (deviceOf (a .system))) xs (r .next) out′ (a .system .world .buffers) ≡ played xs (decodedFrom most xs (r .next)) (a .system)) → onward k xs (carried r a out) ≡ lineBefore (recordLine (r .number) (a .answered .number) (a .answered .byte)) (played xs (decodedFrom most xs (r .next)) (a .system))
   unfolding onward pick
   onward-carried k most r a h =
       ap
@@ -84,7 +76,7 @@ module _ (xs out : List ℕ) (room : 72 ≤ length out) (b : Buffers (List ℕ))
       (omega (arith, placed-size 0 (recordLine (r .number) (a .answered .number) (a .answered .byte)) out)))
 
   -- what stands at a place, taken by a step
-  onward-record : (k most p : ℕ) (r : Record) → Stands xs p r → (p < r .next → onward k xs (carried r (effect xs r (systemWith d b)) out) ≡ lineBefore (recordLine (r .number) (effect xs r (systemWith d b) .answered .number) (effect xs r (systemWith d b) .answered .byte)) (recordsFrom most xs (r .next) (effect xs r (systemWith d b) .system))) → onward k xs (byRecord r (inPhase 1 0 d) xs out b) ≡ after most xs r (systemWith d b)
+  onward-record : (k most p : ℕ) (r : Record) → Stands xs p r → (p < r .next → onward k xs (carried r (effect xs r (systemWith d b)) out) ≡ lineBefore (recordLine (r .number) (effect xs r (systemWith d b) .answered .number) (effect xs r (systemWith d b) .answered .byte)) (played xs (decodedFrom most xs (r .next)) (effect xs r (systemWith d b) .system))) → onward k xs (byRecord r (inPhase 1 0 d) xs out b) ≡ after most xs r (systemWith d b)
   unfolding byRecord after
   onward-record k most p r s h =
       ap (onward k xs) (pick-false _ _ _ (ne-eqb (r .number) 0 (λ e. omega (arith, s .some, e))))
@@ -143,9 +135,9 @@ module _ (xs : List ℕ) where
       ∙ ap (λ (r : Record). onward k xs (byRecord r (inPhase 1 0 d) xs out b)) (at-end xs p h)
       ∙ last-counts xs out room b d k p
 
-  records : (most p : ℕ) (out : List ℕ) → 72 ≤ length out → (b : Buffers (List ℕ)) (d : Device) → length xs < p + most → stepsFrom (suc (suc most)) (inPhase 1 0 d) xs p out b ≡ recordsFrom most xs p (systemWith d b)
-  unfolding recordsFrom after
-  records zero p out room b d h = behind-all (suc zero) p out room b d (omega arith)
+  records : (most p : ℕ) (out : List ℕ) → 72 ≤ length out → (b : Buffers (List ℕ)) (d : Device) → length xs < p + most → stepsFrom (suc (suc most)) (inPhase 1 0 d) xs p out b ≡ played xs (decodedFrom most xs p) (systemWith d b)
+  unfolding decodedFrom
+  records zero p out room b d h = behind-all (suc zero) p out room b d (omega arith) ∙ sym (played-end xs (systemWith d b))
   records (suc most) p out room b d h =
       in-records xs out room b d (suc (suc most)) p
       ∙ either (eqb (longLength xs p) 0)
@@ -155,6 +147,7 @@ module _ (xs : List ℕ) where
       (λ out′ room′. records most (recordAt xs p true .next) out′ room′ _ _ (omega (arith, g, h)))))
       (λ e. ap (onward (suc (suc most)) xs) (step-long xs out room b d p (eqb-false (longLength xs p) 0 e))
       ∙ onward-long xs out room b d (suc most) most p (eqb-false (longLength xs p) 0 e))
+      ∙ sym (played-from xs (systemWith d b) most p)
 
   module _ (out : List ℕ) (room : 72 ≤ length out) where
     in-version : (k : ℕ) → stepsFrom (suc k) sessionAtStart xs 0 out (start .world .buffers) ≡ onward k xs (buffersKept (start .world .buffers) (versionStep sessionAtStart xs 0 true out))
@@ -178,12 +171,14 @@ module _ (xs : List ℕ) where
     version-goes k = refl
 
     session-fault : (getD xs 0 0 ≡ 1 → ⊥) → session xs ≡ endedBy (faultLine 20) 20 start
-    unfolding session
-    session-fault e = pick-false _ _ _ (ne-eqb (getD xs 0 0) 1 e)
+    unfolding decoded
+    session-fault e =
+        ap (λ (d : Decoded). played xs d start) (pick-false _ _ _ (ne-eqb (getD xs 0 0) 1 e))
+        ∙ played-fault xs start 20 (ne-eqb 20 0 (λ z. omega (arith, z)))
 
-    session-records : getD xs 0 0 ≡ 1 → session xs ≡ recordsFrom (length xs) xs 1 start
-    unfolding session
-    session-records e = pick-true _ _ _ (eq-eqb (getD xs 0 0) 1 e)
+    session-records : getD xs 0 0 ≡ 1 → session xs ≡ played xs (decodedFrom (length xs) xs 1) start
+    unfolding decoded
+    session-records e = ap (λ (d : Decoded). played xs d start) (pick-true _ _ _ (eq-eqb (getD xs 0 0) 1 e))
 
     -- a fault of the version
     faulted : (k q : ℕ) → versionStep sessionAtStart xs 0 true out ≡ lastFault 20 q deviceAtPowerOn out → (getD xs 0 0 ≡ 1 → ⊥) → stepsFrom (suc k) sessionAtStart xs 0 out (start .world .buffers) ≡ session xs
@@ -213,25 +208,3 @@ steps-read xs out room =
     ∙ records xs (length xs) 1 out room (start .world .buffers) deviceAtPowerOn (omega arith)
     ∙ sym (session-records xs out room v))
     (λ f. faulted xs out room _ (0 + 1) (other-version xs out room h (eqb-false (getD xs 0 0) 1 f)) (eqb-false (getD xs 0 0) 1 f)))
-
--- ---- no record is left behind
-
-module _ (xs : List ℕ) where
-  one-more : (most p : ℕ) (s : System (List ℕ)) → length xs < p + most → recordsFrom (suc most) xs p s ≡ recordsFrom most xs p s
-  unfolding recordsFrom after
-  one-more zero p s h =
-      ap (λ (r : Record). after zero xs r s) (at-end xs p (omega arith))
-      ∙ pick-true _ _ _ (eq-eqb 5 5 refl)
-  one-more (suc most) p s h =
-      both (λ (x y : Ended). x ≡ y) (eqb (recordAt xs p true .number) 5) _ _ _ _ (λ e. refl)
-      (λ e. both (λ (x y : Ended). x ≡ y) (leb 20 (recordAt xs p true .number)) _ _ _ _ (λ f. refl)
-      (λ f. ap (lineBefore (recordLine (recordAt xs p true .number) (effect xs (recordAt xs p true) s .answered .number) (effect xs (recordAt xs p true) s .answered .byte)))
-      (one-more most (recordAt xs p true .next) (effect xs (recordAt xs p true) s .system)
-      (omega (arith, h, stands xs p .takes (eqb-false (recordAt xs p true .number) 5 e) (λ z. omega (arith, leb-false 20 (recordAt xs p true .number) f, z)))))))
-
-pub all-read : (xs : List ℕ) → AllRead xs
-all-read xs zero = ap (λ (n : ℕ). recordsFrom n xs 1 start) (let z : 0 + length xs ≡ length xs = omega arith in z)
-all-read xs (suc more) =
-    ap (λ (n : ℕ). recordsFrom n xs 1 start) (let z : suc more + length xs ≡ suc (more + length xs) = omega arith in z)
-    ∙ one-more xs (more + length xs) 1 start (omega arith)
-    ∙ all-read xs more

@@ -9,7 +9,7 @@ use Rattle.rules.specs.Buffers.{flat}
 use Rattle.rules.specs.Entries.{Poke, Entry, portWrite, portRead, clockGrant, outsideChange}
 use Rattle.records.specs.Records.{version}
 use Rattle.records.specs.Encoding.{SessionRecord, toWrite, toRead, toGrant, toMemory, InRange, recordBytes}
-use Rattle.runs.specs.Sessions.{session, decoded, entriesOf}
+use Rattle.runs.specs.Sessions.{sessionEntries, session}
 
 -- every record of the list is in range
 unfoldable pub AllInRange : List SessionRecord → Type 0
@@ -46,7 +46,7 @@ entriesFor (r ∷ rs) = entryFor r ∷ entriesFor rs
 pub record ReadsBack (rs : List SessionRecord) : Type 0 where
   pub bytes : AreBytes (sessionBytes rs)
   pub fault : session (sessionBytes rs) .fault ≡ 0
-  pub entries : entriesOf (sessionBytes rs) (decoded (sessionBytes rs)) ≡ entriesFor rs
+  pub entries : sessionEntries (sessionBytes rs) ≡ entriesFor rs
 
 -- of every list of records in range
 abbrev pub EncodedReadsBack : Type 0

@@ -1,4 +1,2 @@
-pub mod Poking
-pub mod Carrying
-pub mod Saying
-pub mod Room
+pub mod Effects
+pub mod Steps

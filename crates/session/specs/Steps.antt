@@ -51,7 +51,7 @@ inPhase phase left d = record { phase = phase; left = left; device = d }
 abbrev pub sessionAtStart : Session
 sessionAtStart = inPhase atVersion 0 deviceAtPowerOn
 
--- ---- answers: bytes were taken; more bytes are needed; the session is over; the slice for the line is too short
+-- ---- how a step goes on: bytes were taken; more bytes are needed; the session is over; the slice for the line is too short
 
 abbrev pub goesOn : ℕ
 goesOn = 0
@@ -65,18 +65,18 @@ isOver = 2
 abbrev pub noRoom : ℕ
 noRoom = 9
 
--- no line: the number, the next place, the session
+-- no line: the progress, the next place, the session
 abbrev pub stepWithoutLine : ℕ → ℕ → Session → Step
-stepWithoutLine number next s = record { number = number; fault = 0; next = next; length = 0; session = s }
+stepWithoutLine progress next s = record { progress = progress; fault = 0; next = next; length = 0; session = s }
 
 abbrev pub withoutLine : ℕ → ℕ → Session → List ℕ → Said
-withoutLine number next s out = record { step = stepWithoutLine number next s; line = out }
+withoutLine progress next s out = record { step = stepWithoutLine progress next s; line = out }
 
 -- a line: its bytes at the front, the rest of the slice as it was
 abbrev pub withLine : ℕ → ℕ → ℕ → List ℕ → Session → List ℕ → Said
-withLine number fault next bytes s out =
+withLine progress fault next bytes s out =
     record {
-      step = record { number = number; fault = fault; next = next; length = length bytes; session = s };
+      step = record { progress = progress; fault = fault; next = next; length = length bytes; session = s };
       line = placed 0 bytes out;
     }
 
@@ -139,7 +139,7 @@ recordStep s xs p ended out b =
     (byRecord (recordAt xs p ended) s xs out b)
     (buffersKept b (withoutLine goesOn (p + 2) (inPhase inLong (longLength xs p) (s .device)) out))
 
--- a step: nothing but its number where the slice for the line is too short. A phase above 2 is a session that is over
+-- a step: nothing but its progress where the slice for the line is too short. A phase above 2 is a session that is over
 unfoldable pub stepOf : Session → List ℕ → ℕ → Bool → List ℕ → Buffers (List ℕ) → Outcome
 stepOf s xs p ended out b =
     pick (ltb (length out) room) (buffersKept b (withoutLine noRoom p s out))

@@ -1,7 +1,6 @@
 // What a record does to device, memory and latches.
 ghost use mathlib.Core.Path.{_≡_};
 ghost use Prim.Native.Nat.{_-_};
-ghost use lib.ListN.{set};
 ghost use Rattle.rules.specs.Entries.{poked};
 ghost use Rattle.zxndma.specs.Answers.{systemOf};
 ghost use Rattle.session.specs.Effects.{pokes, effectAnswer};
@@ -16,17 +15,6 @@ pub struct Effect {
     pub device: Device,
 }
 
-// A byte is put at an address; behind the end of the memory nothing is put.
-fn store(memory: &mut [u8], address: u16, byte: u8)
-    ensures { λ r. ⌜ now (memory .exit) ≡ set (now (memory .entry)) address byte ⌝ }
-{
-    let at = records::index(address);
-    if at < memory.len() {
-        memory[at] = byte;
-        return;
-    }
-}
-
 // The bytes from `start` up to `end` are put into memory from an address on, which wraps.
 fn poke(input: &[u8], start: usize, end: usize, memory: &mut [u8], address: u16)
     ensures { λ r. ⌜ now (memory .exit) ≡ poked (pokes (end - start) (now (input .entry)) start address) (now (memory .entry)) ⌝ }
@@ -35,7 +23,7 @@ fn poke(input: &[u8], start: usize, end: usize, memory: &mut [u8], address: u16)
     let mut to = address;
     while at < end {
         let byte = records::byte_at(input, at);
-        store(memory, to, byte);
+        records::put_at(memory, records::index(to), byte);
         to = std::num::wrapping_add_u16(to, 1);
         at += 1;
     }

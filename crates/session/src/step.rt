@@ -24,7 +24,7 @@ const NO_VERSION: u8 = 20;
 
 const FAULTS: u8 = NO_VERSION;
 
-// The answers of a step.
+// How a step goes on.
 
 // It took bytes, and wrote a line or none.
 pub const GOES_ON: u8 = 0;
@@ -50,7 +50,7 @@ pub struct Session {
 // The answer of a step.
 pub struct Step {
     // GOES_ON, WAITS, IS_OVER or NO_ROOM.
-    pub number: u8,
+    pub progress: u8,
     // The fault that ended the session: 20, 21 or 22, else 0.
     pub fault: u8,
     // The place behind the bytes taken.
@@ -71,11 +71,11 @@ fn in_phase(phase: u8, left: usize, device: Device) -> Session
 }
 
 // A step without a line.
-fn say_nothing(number: u8, next: usize, session: Session) -> Step
-    ensures { λ r. ⌜ r ≡ stepWithoutLine number next session ⌝ }
+fn say_nothing(progress: u8, next: usize, session: Session) -> Step
+    ensures { λ r. ⌜ r ≡ stepWithoutLine progress next session ⌝ }
 {
     Step {
-        number,
+        progress,
         fault: 0,
         next,
         length: 0,
@@ -91,7 +91,7 @@ fn say_fault(fault: u8, next: usize, device: Device, out: &mut [u8]) -> Step
     let length = lines::put_fault_line(fault, out);
     let session = in_phase(OVER, 0, device);
     Step {
-        number: IS_OVER,
+        progress: IS_OVER,
         fault,
         next,
         length,
@@ -108,7 +108,7 @@ fn say_counts(next: usize, device: Device, out: &mut [u8]) -> Step
     let length = lines::put_counts_line(clocks, out);
     let session = in_phase(OVER, 0, device);
     Step {
-        number: IS_OVER,
+        progress: IS_OVER,
         fault: 0,
         next,
         length,
@@ -180,7 +180,7 @@ fn carry(
     let after = done.device;
     let session = in_phase(RECORDS, 0, after);
     Step {
-        number: GOES_ON,
+        progress: GOES_ON,
         fault: 0,
         next: found.next,
         length,

@@ -9,11 +9,11 @@ use Rattle.bench.proofs.work.Statement.{statement}
 use Rattle.bench.proofs.work.Tie as tie
 
 abbrev Inv-loop : tie.InvT-loop
-Inv-loop input output₀ memory₀ latches₀ have ended session₀ at₀ filled₀ number₀ output memory latches session at filled number =
-    (have ≤ length input) × Going (take have input) ended session₀ at₀ output₀ memory₀ latches₀ output memory latches session at filled number
+Inv-loop input output₀ memory₀ latches₀ have ended session₀ at₀ filled₀ progress₀ output memory latches session at filled progress =
+    (have ≤ length input) × Going (take have input) ended session₀ at₀ output₀ memory₀ latches₀ output memory latches session at filled progress
 
 abbrev μ-loop : tie.MeasureT-loop
-μ-loop input output₀ memory₀ latches₀ have ended session₀ at₀ filled₀ number₀ output memory latches session at filled number = toGo (take have input) number at
+μ-loop input output₀ memory₀ latches₀ have ended session₀ at₀ filled₀ progress₀ output memory latches session at filled progress = toGo (take have input) progress at
 
 loop-holds : tie.Need-loop-holds Inv-loop μ-loop
 loop-holds c = let

@@ -14,7 +14,7 @@ use Rattle.lines.proofs.digit.Reads as digit
 use Rattle.lines.proofs.+put_decimal.Lts-put_decimal as lts
 use Rattle.lines.proofs.+put_decimal.{statement}
 use Rattle.lines.proofs.+put_decimal.Tie.{close}
-use Rattle.lines.proofs.Putting.{put-more, put-as, put-none, decimal-small, decimal-more}
+use Rattle.lines.proofs.Lines.{put-more, put-as, put-none, decimal-small, decimal-more}
 
 abbrev μ : Measures 1 kinds.ps ℕ
 μ κs a = a .0

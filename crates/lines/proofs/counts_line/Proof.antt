@@ -1,6 +1,6 @@
 -- Runs of bytes put one behind the other are their concatenation put.
 -- Assumes nothing.
-use Rattle.lines.proofs.Putting.{put-more}
+use Rattle.lines.proofs.Lines.{put-more}
 use borrow.Author.Needs.{needs}
 use Rattle.lines.proofs.counts_line.Statement.{statement}
 use Rattle.lines.proofs.counts_line.Tie as tie

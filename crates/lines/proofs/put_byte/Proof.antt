@@ -1,6 +1,6 @@
 -- One store is one byte put.
 -- Assumes nothing.
-use Rattle.lines.proofs.Putting.{put-one}
+use Rattle.lines.proofs.Lines.{put-one}
 use borrow.Author.Needs.{needs}
 use Rattle.lines.proofs.put_byte.Statement.{statement}
 use Rattle.lines.proofs.put_byte.Tie as tie

@@ -1,6 +1,6 @@
 -- By the room: nothing, or the line.
 -- Assumes nothing.
-use Rattle.lines.proofs.Putting.{line-put, line-short}
+use Rattle.lines.proofs.Lines.{line-put, line-short}
 use borrow.Author.Needs.{needs}
 use Rattle.lines.proofs.put_counts_line.Statement.{statement}
 use Rattle.lines.proofs.put_counts_line.Tie as tie

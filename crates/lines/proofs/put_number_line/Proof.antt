@@ -1,6 +1,6 @@
 -- Runs of bytes put one behind the other are their concatenation put.
 -- Assumes nothing.
-use Rattle.lines.proofs.Putting.{put-more, put-as}
+use Rattle.lines.proofs.Lines.{put-more, put-as}
 use Rattle.lines.specs.Lines.{decimalTo}
 use mathlib.Core.Path.{ap}
 use borrow.Author.Needs.{needs}

@@ -1,6 +1,6 @@
 -- By the number: the seven bytes of an accepted read, or the line of a refusal. Runs put one behind the other are put.
 -- Assumes nothing.
-use Rattle.lines.proofs.Putting.{put-more, put-as}
+use Rattle.lines.proofs.Lines.{put-more, put-as}
 use Rattle.lines.specs.Lines.{readLine}
 use Rattle.rules.specs.Choice.{pick}
 use mathlib.Core.Path.{ap}

@@ -1,6 +1,6 @@
 -- By the kind, the line of that kind.
 -- Assumes nothing.
-use Rattle.lines.proofs.Putting.{put-as}
+use Rattle.lines.proofs.Lines.{put-as}
 use Rattle.lines.specs.Lines.{recordLine}
 use Rattle.rules.specs.Choice.{pick}
 use borrow.Author.Tests.{eq-eqb, ne-eqb}

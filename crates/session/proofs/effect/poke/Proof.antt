@@ -4,7 +4,7 @@
 use Prim.Native.Nat.{_-_}
 use native.Mathlib.Omega.{arith}
 use borrow.Author.Needs.{needs}
-use Rattle.session.proofs.Poking.{Poking, poking-start, poking-more, poking-end}
+use Rattle.session.proofs.Effects.{Poking, poking-start, poking-more, poking-end}
 use Rattle.session.proofs.effect.poke.Statement.{statement}
 use Rattle.session.proofs.effect.poke.Tie as tie
 
@@ -20,8 +20,11 @@ loop-holds c = poking-start _ _ _ _ _
 byte-at-requires : tie.Need-byte-at-requires Inv-loop μ-loop
 byte-at-requires c κs = search needs
 
-store-requires : tie.Need-store-requires Inv-loop μ-loop
-store-requires c κs = search needs
+index-requires : tie.Need-index-requires Inv-loop μ-loop
+index-requires c κs = search needs
+
+put-at-requires : tie.Need-put-at-requires Inv-loop μ-loop
+put-at-requires c κs = search needs
 
 wrapping-add-u16-requires : tie.Need-wrapping-add-u16-requires Inv-loop μ-loop
 wrapping-add-u16-requires c κs = search needs
@@ -33,7 +36,10 @@ loop-less : tie.Need-loop-less Inv-loop μ-loop
 loop-less c = omega arith
 
 loop-again : tie.Need-loop-again Inv-loop μ-loop
-loop-again c = poking-more (c .before .before .before .before .before .before .before .loop .inv) (c .before .before .before .before .before .before .loop-test .taken) (c .before .before .before .before .before .byte-at .ensures) (c .before .before .before .store .ensures) (c .wrapping-add-u16 .ensures)
+loop-again c =
+    let put = c .before .before .before in
+    let read = put .before .before .before in
+    poking-more (read .before .before .loop .inv) (read .before .loop-test .taken) (read .byte-at .ensures) (put .before .index .ensures .0) (put .put-at .ensures) (c .wrapping-add-u16 .ensures)
 
 same-length : tie.Need-same-length Inv-loop μ-loop
 same-length c = c .before .loop .inv .size
@@ -49,7 +55,8 @@ poke-spec =
     μ-loop
     loop-holds
     byte-at-requires
-    store-requires
+    index-requires
+    put-at-requires
     wrapping-add-u16-requires
     add-at
     loop-less

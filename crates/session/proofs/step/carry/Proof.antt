@@ -1,6 +1,6 @@
 -- The record's effect, and the line of what it was answered.
 -- Assumes nothing.
-use Rattle.session.proofs.Saying.{carried-put}
+use Rattle.session.proofs.Steps.{carried-put}
 use borrow.Author.Needs.{needs}
 use Rattle.session.proofs.step.carry.Statement.{statement}
 use Rattle.session.proofs.step.carry.Tie as tie

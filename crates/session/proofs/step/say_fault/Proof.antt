@@ -1,6 +1,6 @@
 -- What was put is the line, and its length the place behind it.
 -- Assumes nothing.
-use Rattle.session.proofs.Saying.{spoken-put}
+use Rattle.session.proofs.Steps.{spoken-put}
 use borrow.Author.Needs.{needs}
 use Rattle.session.proofs.step.say_fault.Statement.{statement}
 use Rattle.session.proofs.step.say_fault.Tie as tie

@@ -1,4 +1,5 @@
--- Bytes put into a list one run after the other, what is then taken from its front, and the digits of a number.
+-- Runs of bytes put into a list one behind the other are their concatenation put, and what was put at its front is what is
+-- taken from there. A number has no more digits than are allowed, so that every line has room in 72 bytes.
 -- Assumes nothing.
 use Prim.Native.Nat.{ℕ, zero, suc, _+_, _-_, _/_, _%_, _≤_, _<_}
 use native.Mathlib.Omega.{arith}
@@ -6,12 +7,13 @@ use native.Mathlib.Numerals.{add-one}
 use mathlib.Core.Path.{_≡_, refl, sym, ap, _∙_}
 use mathlib.Core.List.{List, [], _∷_, _++_, append-assoc, append-nil}
 use borrow.Author.Tests.{lt-ltb, le-ltb}
-use lib.Dec.{ltb}
+use lib.Dec.{eqb, ltb}
 use lib.ListN.{length, take, set, length-set, length-append}
 use lib.Seq.{take-suc-set}
 use Rattle.rules.specs.Buffers.{placed}
 use Rattle.rules.proofs.Choice.{pick-true, pick-false, pick-both}
-use Rattle.lines.specs.Lines.{decimalTo, Put, PutLine}
+use Rattle.rules.specs.declared.Clocks.{Clocks}
+use Rattle.lines.specs.Lines.{decimalTo, decimal, numberLine, readLine, recordLine, countsLine, Put, PutLine}
 
 placed-append : (at : ℕ) (xs ys l : List ℕ) → placed (at + length xs) ys (placed at xs l) ≡ placed at (xs ++ ys) l
 unfolding placed
@@ -100,3 +102,20 @@ decimal-more zero n h e = absurd (omega arith)
 decimal-more (suc most) n h e =
     ap (λ (k : ℕ). decimalTo k (n / 10) ++ ((48 + n % 10) ∷ [])) (let z : suc most - 1 ≡ most = omega arith in z)
     ∙ sym (pick-false (ltb n 10) _ _ (le-ltb _ _ e))
+
+-- ---- every line has room
+
+pub number-room : (letter n : ℕ) → length (numberLine letter n) ≤ 72
+number-room letter n = omega (arith, length-append (decimal n) (10 ∷ []), decimal-most 20 n)
+
+pub record-room : (kind number byte : ℕ) → length (recordLine kind number byte) ≤ 72
+unfolding recordLine readLine
+record-room kind number byte =
+    pick-both (λ (xs : List ℕ). length xs ≤ 72) (eqb kind 1) _ _ (number-room 87 number)
+    (pick-both (λ (xs : List ℕ). length xs ≤ 72) (eqb kind 2) _ _
+    (pick-both (λ (xs : List ℕ). length xs ≤ 72) (eqb number 0) _ _ (omega arith) (number-room 82 number))
+    (pick-both (λ (xs : List ℕ). length xs ≤ 72) (eqb kind 3) _ _ (number-room 71 number) (number-room 77 number)))
+
+pub counts-room : (k : Clocks) → length (countsLine k) ≤ 72
+counts-room k =
+    simp length-append (omega (arith, decimal-most 20 (k .bus), decimal-most 20 (k .held), decimal-most 20 (k .cpu)))

@@ -1,9 +1,12 @@
--- A record that is carried out, kind by kind.
+-- A record that is carried out, kind by kind: its entry is the one that the code calls, and so is its answer. Of a memory
+-- record's bytes those that are left, put into the memory as it is, make of it what all make of the memory as it was.
 -- Assumes nothing.
-use Prim.Native.Nat.{ℕ, _-_}
+use Prim.Native.Nat.{ℕ, suc, _+_, _-_, _%_, _≤_, _<_}
+use native.Mathlib.Omega.{arith}
 use mathlib.Core.Path.{_≡_, refl, sym, ap, _∙_}
 use mathlib.Core.List.{List, []}
 use borrow.Author.Tests.{eq-eqb, ne-eqb}
+use lib.ListN.{length, getD, set, length-set}
 use Rattle.rules.specs.Buffers.{flat}
 use Rattle.rules.specs.Calls.{Answer, Reply, accepted, unlessRefused, writeReply, readReply, grant}
 use Rattle.rules.specs.Entries.{Poke, poked, flatOutside, Entry, portWrite, portRead, clockGrant, outsideChange, enter}
@@ -81,3 +84,35 @@ module _ (xs : List ℕ) (r : Record) where
     pub carried-none : Other → (r .number ≡ 4 → ⊥) → _≡_ {A = Answer (List ℕ)} (record { answered = accepted 0; system = systemOf d m l }) (effect xs r (systemOf d m l))
     unfolding on poked
     carried-none o n = ap on (entry-none o n)
+
+-- ---- a memory record's bytes on their way into memory
+
+-- what is left to be put, put into the memory as it is, makes of it what all bytes make of the memory as it was
+pub record Poking (xs m₀ : List ℕ) (start end a₀ : ℕ) (m : List ℕ) (at to : ℕ) : Type 0 where
+  pub rest : poked (pokes (end - at) xs at to) m ≡ poked (pokes (end - start) xs start a₀) m₀
+  pub size : length m ≡ length m₀
+
+pub poking-start : (xs m : List ℕ) (start end a : ℕ) → Poking xs m start end a m start a
+poking-start xs m start end a = record { rest = refl; size = refl }
+
+-- the first of the bytes that are left
+first : (n : ℕ) (xs : List ℕ) (at to : ℕ) (m : List ℕ) → poked (pokes (suc n) xs at to) m ≡ poked (pokes n xs (at + 1) ((to + 1) % 65536)) (set m to (getD xs at 0))
+unfolding poked pokes
+first n xs at to m = refl
+
+module _ {xs m₀ : List ℕ} {start end a₀ : ℕ} {m : List ℕ} {at to : ℕ} (p : Poking xs m₀ start end a₀ m at to) where
+  pub poking-more : {m′ : List ℕ} {byte i to′ : ℕ} → at < end → byte ≡ getD xs at 0 → i ≡ to → m′ ≡ set m i byte → to′ ≡ (to + 1) % 65536 → Poking xs m₀ start end a₀ m′ (at + 1) to′
+  poking-more {m′} {byte} {i} {to′} h e q s w =
+      record {
+        rest =
+            ap (λ (l : List ℕ). poked (pokes (end - (at + 1)) xs (at + 1) to′) l) (s ∙ (λ j. set m (q j) (e j)))
+            ∙ ap (λ (t : ℕ). poked (pokes (end - (at + 1)) xs (at + 1) t) (set m to (getD xs at 0))) w
+            ∙ sym (first (end - (at + 1)) xs at to m)
+            ∙ ap (λ (n : ℕ). poked (pokes n xs at to) m) (let z : suc (end - (at + 1)) ≡ end - at = omega arith in z)
+            ∙ p .rest;
+        size = ap length s ∙ length-set m i byte ∙ p .size;
+      }
+
+  pub poking-end : end ≤ at → m ≡ poked (pokes (end - start) xs start a₀) m₀
+  unfolding poked pokes
+  poking-end h = ap (λ (n : ℕ). poked (pokes n xs at to) m) (let z : 0 ≡ end - at = omega arith in z) ∙ p .rest
