@@ -16,8 +16,8 @@ use Rattle.rules.specs.Validity.{valid, total}
 use Rattle.rules.specs.World.{System, Move}
 use Rattle.rules.specs.Calls.{Answer, read}
 use Rattle.rules.proofs.Choice.{clash, either, pick-true, pick-false, all-true, every-stop, every-stop-later}
-use Rattle.examples.specs.Rows.{Action, fill, latch, send, sendRefused, expect, expectRefused, clocks, borrow, counts, memory, latches, pointers, counter, status, enabled, count, suppose, supposeCounts, clocksRefused, figure, changed, nextMove, Row, Seen, same, answered, expectAll, movesSo, perform, played, Failure, rowFailures, start, failures}
-use Rattle.examples.specs.Bites.{Other, OneOther, here, later, OneChanged, sendRefusedNumber, expectByte, expectRefusedNumber, borrowNumber, countsBus, countsHeld, countsCpu, memoryByte, latchesByte, pointersA, pointersB, counterHolds, statusByte, enabledOr, countIs, clocksRefusedNumber, figureIs, changedValid, moveFrom, moveFromIo, moveTo, moveToIo, moveByte, Bites, TableBites, anyOf, expects, someExpects, allExpect, EveryRowExpects, Changeable, ExpectsChangeable}
+use Rattle.examples.specs.Rows.{Action, fill, latch, send, sendRefused, expect, expectRefused, clocks, borrow, counts, memory, latches, pointers, counter, status, enabled, count, suppose, supposeCounts, clocksRefused, figure, changed, nextMove, Row, Seen, same, answered, sendAll, expectAll, movesSo, perform, played, Failure, rowFailures, start, failures}
+use Rattle.examples.specs.Bites.{Other, OneOther, here, later, OneChanged, sendAccepted, clocksAccepted, sendRefusedNumber, expectByte, expectRefusedNumber, borrowNumber, countsBus, countsHeld, countsCpu, memoryByte, latchesByte, pointersA, pointersB, counterHolds, statusByte, enabledOr, countIs, clocksRefusedNumber, figureIs, changedValid, moveFrom, moveFromIo, moveTo, moveToIo, moveByte, Bites, TableBites, anyOf, expects, someExpects, allExpect, EveryRowExpects, Changeable, ExpectsChangeable}
 
 -- ---- one value
 
@@ -104,7 +104,9 @@ second-of : (n m : ℕ) (t : Bool) (ts : List Bool) (k : ℕ) → Other n m → 
 second-of n m t ts k o h = every-stop-later _ _ (every-stop _ _ (other-number k n m o (all-true _ h .1 .0)))
 
 pub bites : Bites
-unfolding perform
+unfolding perform sendAll
+bites _ _ s (sendAccepted port byte m o) h = second-of 0 m _ _ _ o h
+bites _ _ s (clocksAccepted z m o) h = second-of 0 m _ _ _ o h
 bites _ _ s (sendRefusedNumber port byte n m o) h = second-of n m _ _ _ o h
 bites _ _ s (expectByte port xs ys o) h = reads-bite port xs ys _ o h
 bites _ _ s (expectRefusedNumber port n m o) h = second-of n m _ _ _ o h

@@ -20,8 +20,11 @@ pub data OneOther : List ℕ → List ℕ → Type 0 where
   here : (x y : ℕ) (xs : List ℕ) → Other x y → OneOther (x ∷ xs) (y ∷ xs)
   later : (x : ℕ) (xs ys : List ℕ) → OneOther xs ys → OneOther (x ∷ xs) (x ∷ ys)
 
--- an action, and the same with one of the values that it expects replaced by another; those that expect none do not occur
+-- an action, and the same with one of the values that it expects replaced by another, be it the 0 of a write or a grant that
+-- is accepted; those that expect none do not occur
 pub data OneChanged : Action → Action → Type 0 where
+  sendAccepted : (port byte m : ℕ) → Other 0 m → OneChanged (send port (byte ∷ [])) (sendRefused port byte m)
+  clocksAccepted : (z m : ℕ) → Other 0 m → OneChanged (clocks z) (clocksRefused z m)
   sendRefusedNumber : (port byte n m : ℕ) → Other n m → OneChanged (sendRefused port byte n) (sendRefused port byte m)
   expectByte : (port : ℕ) (xs ys : List ℕ) → OneOther xs ys → OneChanged (expect port xs) (expect port ys)
   expectRefusedNumber : (port n m : ℕ) → Other n m → OneChanged (expectRefused port n) (expectRefused port m)

@@ -4,8 +4,8 @@ use Prim.Native.Nat.{ℕ}
 use mathlib.Core.Path.{_≡_}
 use mathlib.Core.Bool.{false}
 use mathlib.Core.Option.{Option, none, some}
-use mathlib.Core.List.{List, [], _∷_}
-use lib.ListN.{length, drop, replicate}
+use mathlib.Core.List.{List, [], _∷_, _++_}
+use lib.ListN.{length, replicate}
 use Rattle.rules.specs.Clock.{Kind, busClock, cpuClock}
 use Rattle.rules.specs.Buffers.{flat}
 use Rattle.rules.specs.Entries.{Poke, flatOutside, Entry, portWrite, clockGrant, otherGrant, outsideChange}
@@ -68,11 +68,17 @@ unfoldable pub found : Past (List ℕ) → List Worked → List Noted
 found p [] = []
 found p (w ∷ ws) =
     let h : History (List ℕ) = history flat flatOutside (sent (w .program) (w .entries)) p in
-    record { numbers = drop (length (w .program)) (h .numbers); sum = h .past .sum; events = h .past .events } ∷ found p ws
+    record { numbers = h .numbers; sum = h .past .sum; events = h .past .events } ∷ found p ws
 
 unfoldable pub must : List Worked → List Noted
 must [] = []
-must (w ∷ ws) = w .noted ∷ must ws
+must (w ∷ ws) =
+    record {
+      numbers = replicate (length (w .program)) 0 ++ w .noted .numbers;
+      sum = w .noted .sum;
+      events = w .noted .events;
+    }
+    ∷ must ws
 
 abbrev pub worked : List ℕ → List (Entry flat (List Poke)) → List ℕ → ℕ → List Event → Worked
 worked program entries numbers sum events =

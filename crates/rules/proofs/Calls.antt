@@ -212,6 +212,7 @@ module _ {M : Type 0} (σ : Store M) where
         power-on = device-valid _ _ power-on-valid;
         write = λ c k port byte b r v. device-valid _ _ (write-valid c k port byte b (valid-device c k r v));
         read = λ c k port r v. device-valid _ _ (read-valid c k port (valid-device c k r v));
+        clock = λ c r v. parts-core _ (clock-kept c (record { valid = core-parts c v; range = r }) .valid);
         granted = λ s n r v. device-valid _ _ (grant-valid σ s n (valid-device _ _ r v));
       }
 

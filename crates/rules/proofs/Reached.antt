@@ -19,7 +19,7 @@ use Rattle.rules.specs.Refusals.{accessRefusal, grantRefusal}
 use Rattle.rules.specs.Entries.{Outside, Poke, flatOutside, Entry, portWrite, portRead, clockGrant, otherGrant, outsideChange, bytesWritten, enter, run}
 use Rattle.rules.specs.History.{Past, writePassed, notedUnless, clocksPassed, noteEntry, history}
 use Rattle.rules.specs.Accounts.{heldBefore}
-use Rattle.rules.specs.Reached.{CountersNoted, EveryReached, NoneIs, LendsOther, OwnServe, AnswersReached}
+use Rattle.rules.specs.Reached.{CountersNoted, EveryReached, NoneIs, Lends, WrongMemory, WrongLatches, OwnServe, AnswersReached}
 use Rattle.rules.specs.declared.Core.{Core}
 use Rattle.rules.proofs.Choice.{clash, pick-true, pick-false, pick-cases, pick-both, either, all-true}
 use Rattle.rules.proofs.Slots.{unmoved-below}
@@ -149,20 +149,20 @@ grant-not-five c sum b n l e =
     let h = all-true _ (sym (grant-exact c sum b n .five) ∙ eq-eqb _ 5 e) in
     clash (sym (not-true _ (h .1 .1 .0)) ∙ eq-eqb _ _ l)
 
--- 4 and 5 are answered to a grant that lends other buffers
-entry-four : (e : Entry flat (List Poke)) (s : System (List ℕ)) → Own (s .world .buffers) → enter flat flatOutside e s .answered .number ≡ 4 → LendsOther e
+-- 4 and 5 are answered to a grant that lends buffers of a wrong length
+entry-four : (e : Entry flat (List Poke)) (s : System (List ℕ)) → Own (s .world .buffers) → enter flat flatOutside e s .answered .number ≡ 4 → Lends WrongMemory e
 entry-four (portWrite port byte) s o h = access-small _ _ port _ 4 (refusals-exact .write _ _ port byte) h (omega arith)
 entry-four (portRead port) s o h = access-small _ _ port _ 4 (refusals-exact .read _ _ port) h (omega arith)
 entry-four (clockGrant n) s o h =
     grant-not-four _ _ _ n (flat-memory (s .world .buffers .memory) (o .memory)) (sym (refusals-exact .granted _ n) ∙ h)
-entry-four (otherGrant n b wrong) s o h = tt
+entry-four (otherGrant n b wrong) s o h = λ m. grant-not-four _ _ b n m (sym (refusals-exact .granted _ n) ∙ h)
 entry-four (outsideChange x) s o h = absurd (omega (arith, h))
 
-entry-five : (e : Entry flat (List Poke)) (s : System (List ℕ)) → Own (s .world .buffers) → enter flat flatOutside e s .answered .number ≡ 5 → LendsOther e
+entry-five : (e : Entry flat (List Poke)) (s : System (List ℕ)) → Own (s .world .buffers) → enter flat flatOutside e s .answered .number ≡ 5 → Lends WrongLatches e
 entry-five (portWrite port byte) s o h = access-small _ _ port _ 5 (refusals-exact .write _ _ port byte) h (omega arith)
 entry-five (portRead port) s o h = access-small _ _ port _ 5 (refusals-exact .read _ _ port) h (omega arith)
 entry-five (clockGrant n) s o h = grant-not-five _ _ _ n (o .latches) (sym (refusals-exact .granted _ n) ∙ h)
-entry-five (otherGrant n b wrong) s o h = tt
+entry-five (otherGrant n b wrong) s o h = λ l. grant-not-five _ _ b n l (sym (refusals-exact .granted _ n) ∙ h)
 entry-five (outsideChange x) s o h = absurd (omega (arith, h))
 
 own-serve : (es : List (Entry flat (List Poke))) (s : System (List ℕ)) → Own (s .world .buffers) → OwnServe es (run flat flatOutside es s .answers)

@@ -9,10 +9,11 @@ use lib.Dec.{ltb, eqb}
 use borrow.Author.Tests.{ltb-true, eqb-true}
 use Rattle.rules.specs.Choice.{pick, any}
 use Rattle.rules.specs.Bytes.{bit}
-use Rattle.rules.specs.Readback.{after, seek, Byte, readByte}
+use Rattle.rules.specs.Readback.{statusByte, registerByte, after, seek, Byte, readByte}
 use Rattle.rules.specs.Facts.{Kept}
 use Rattle.rules.specs.Exactly.{onward, ChosenRead, ChosenExact, LowFirst}
 use Rattle.rules.specs.Opened.{opened}
+use Rattle.rules.specs.declared.Status.{Status}
 use Rattle.rules.specs.declared.Core.{Core}
 use Rattle.rules.proofs.Choice.{clash, pick-cases, pick-both, pick-true, pick-false, either, any-cases, any-none}
 use Rattle.rules.proofs.Trying.{allBelow, below-at}
@@ -119,9 +120,26 @@ chosen-exact mask position m n p = from (sought 7 mask position)
         record { steps = j; few = h; there = s; inMask = ap (λ (r : ℕ). bit r mask) s ∙ b; first = f }
     from (missing f) = absurd (n (all-missing mask position m p f))
 
+status-small : (s : Status) → statusByte s < 256
+unfolding statusByte
+status-small s =
+    let e = pick-both {X = ℕ} (λ n. n ≤ 32) (s .e) 32 0 (omega arith) (omega arith) in
+    let t = pick-both {X = ℕ} (λ n. n ≤ 1) (s .t) 1 0 (omega arith) (omega arith) in
+    omega (arith, e, t)
+
+register-small : (k : ℕ) (c : Core) → registerByte k c < 256
+unfolding registerByte
+register-small k c =
+    pick-both (λ n. n < 256) _ _ _ (status-small (c .status))
+    (pick-both (λ n. n < 256) _ _ _ (omega arith)
+    (pick-both (λ n. n < 256) _ _ _ (omega arith)
+    (pick-both (λ n. n < 256) _ _ _ (omega arith)
+    (pick-both (λ n. n < 256) _ _ _ (omega arith) (pick-both (λ n. n < 256) _ _ _ (omega arith) (omega arith))))))
+
 pub low-first : (c : Core) → LowFirst c
 unfolding opened
-low-first c = record { counter = omega arith; a = omega arith; b = omega arith }
+low-first c =
+    record { bytes = λ k. register-small k c; counter = omega arith; a = omega arith; b = omega arith }
 
 -- an accepted read keeps a valid core valid
 pub read-kept : (c : Core) → Kept c → Kept (readByte c .core)

@@ -145,8 +145,9 @@ pub record ChosenRead (mask position : ℕ) : Type 0 where
 abbrev pub ChosenExact : Type 0
 ChosenExact = (mask position : ℕ) → mask ≤ 127 → (mask ≡ 0 → ⊥) → position ≤ 6 → ChosenRead mask position
 
--- a number is read low byte first
+-- what is read are bytes, and a number is read low byte first
 pub record LowFirst (c : Core) : Type 0 where
+  pub bytes : (k : ℕ) → registerByte k c < 256
   pub counter : registerByte 1 c + 256 * registerByte 2 c ≡ c .block .counter % 65536
   pub a : registerByte 3 c + 256 * registerByte 4 c ≡ c .a .pointer % 65536
   pub b : registerByte 5 c + 256 * registerByte 6 c ≡ c .b .pointer % 65536

@@ -4,7 +4,7 @@ use Prim.Native.Nat.{ℕ, _≤_, _<_}
 use mathlib.Core.Path.{_≡_}
 use mathlib.Core.Bool.{true}
 use Rattle.rules.specs.PowerOn.{powerOn, noClocks}
-use Rattle.rules.specs.Validity.{valid, total, most64}
+use Rattle.rules.specs.Validity.{validCore, valid, total, most64}
 use Rattle.rules.specs.Facts.{InRange, Kept}
 use Rattle.rules.specs.Clock.{clockOf}
 use Rattle.rules.specs.Buffers.{Store}
@@ -34,6 +34,7 @@ pub record StaysValidByTest {M : Type 0} (σ : Store M) : Type 0 where
   pub power-on : Passes powerOn noClocks
   pub write : (c : Core) (k : Clocks) (port byte : ℕ) → byte < 256 → InRange c → Passes c k → Passes (writeReply c k port byte .core) (writeReply c k port byte .clocks)
   pub read : (c : Core) (k : Clocks) (port : ℕ) → InRange c → Passes c k → Passes (readReply c k port .core) (readReply c k port .clocks)
+  pub clock : (c : Core) → InRange c → validCore c ≡ true → validCore (clockOf c .next) ≡ true
   pub granted : (s : System M) (n : ℕ) → InRange (s .world .core) → Passes (s .world .core) (s .clocks) → Passes (grant σ s n .system .world .core) (grant σ s n .system .clocks)
 
 -- a refused call answers its number, no byte, and all that it was handed

@@ -8,7 +8,7 @@ use mathlib.Core.List.{List, [], _∷_}
 use lib.ListN.{length}
 use Rattle.rules.specs.Bytes.{AreBytes}
 use Rattle.rules.specs.Validity.{valid, total}
-use Rattle.rules.specs.Buffers.{Store, flat}
+use Rattle.rules.specs.Buffers.{Store, flat, Buffers}
 use Rattle.rules.specs.Keeping.{ValidDevice}
 use Rattle.rules.specs.Calls.{Answered}
 use Rattle.rules.specs.Entries.{Outside, Poke, flatOutside, Entry, portWrite, portRead, clockGrant, otherGrant, outsideChange, bytesWritten, Run, run, systemAtPowerOn}
@@ -43,19 +43,26 @@ unfoldable pub NoneIs : ℕ → List Answered → Type 0
 NoneIs n [] = Unit {0}
 NoneIs n (a ∷ as′) = (a .number ≡ n → ⊥) × NoneIs n as′
 
--- a grant that lends other buffers
-abbrev pub LendsOther : Entry flat (List Poke) → Type 0
-LendsOther (portWrite port byte) = ⊥
-LendsOther (portRead port) = ⊥
-LendsOther (clockGrant n) = ⊥
-LendsOther (otherGrant n b wrong) = Unit {0}
-LendsOther (outsideChange x) = ⊥
+-- a grant that lends other buffers, of which this holds
+abbrev pub Lends : (Buffers (List ℕ) → Type 0) → Entry flat (List Poke) → Type 0
+Lends P (portWrite port byte) = ⊥
+Lends P (portRead port) = ⊥
+Lends P (clockGrant n) = ⊥
+Lends P (otherGrant n b wrong) = P b
+Lends P (outsideChange x) = ⊥
 
--- 4 and 5 are answered only to a grant that lends other buffers
+-- a memory, and latches, of a wrong length
+abbrev pub WrongMemory : Buffers (List ℕ) → Type 0
+WrongMemory b = length (b .memory) ≡ 65536 → ⊥
+
+abbrev pub WrongLatches : Buffers (List ℕ) → Type 0
+WrongLatches b = length (b .latches) ≡ 65536 → ⊥
+
+-- 4 is answered only to a grant that lends another memory, of a wrong length, and 5 only to one that lends such latches
 unfoldable pub OwnServe : List (Entry flat (List Poke)) → List Answered → Type 0
 OwnServe [] as′ = Unit {0}
 OwnServe (e ∷ es) [] = Unit {0}
-OwnServe (e ∷ es) (a ∷ as′) = (a .number ≡ 4 → LendsOther e) × (a .number ≡ 5 → LendsOther e) × OwnServe es as′
+OwnServe (e ∷ es) (a ∷ as′) = (a .number ≡ 4 → Lends WrongMemory e) × (a .number ≡ 5 → Lends WrongLatches e) × OwnServe es as′
 
 -- no entry of a list is answered with 1; from buffers of 65,536 bytes, 4 and 5 are answered to other buffers only
 abbrev pub AnswersReached : Type 0

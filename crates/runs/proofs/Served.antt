@@ -7,7 +7,7 @@ use lib.ListN.{replicate, length-replicate}
 use Rattle.rules.specs.Buffers.{flat}
 use Rattle.rules.specs.World.{System}
 use Rattle.rules.specs.Entries.{Poke, flatOutside, Entry, enter, run}
-use Rattle.rules.specs.Reached.{NoneIs, LendsOther, OwnServe}
+use Rattle.rules.specs.Reached.{NoneIs, Lends, WrongMemory, WrongLatches, OwnServe}
 use Rattle.rules.proofs.Reached.{answers-reached}
 use Rattle.records.specs.declared.Record.{Record}
 use Rattle.session.specs.Effects.{entryOf}
@@ -22,8 +22,8 @@ module _ (xs : List ℕ) where
   buffers-serve [] s h = (tt, tt)
   buffers-serve (r ∷ rs) s h =
       let rest = buffers-serve rs (enter flat flatOutside (entryOf xs r) s .system) (h .2) in (
-        (λ z. each-kind xs (λ (e : Entry flat (List Poke)). LendsOther e → ⊥) r (λ l. l) (λ l. l) (λ l. l) (λ ps l. l) (h .0 z), rest .0),
-        (λ z. each-kind xs (λ (e : Entry flat (List Poke)). LendsOther e → ⊥) r (λ l. l) (λ l. l) (λ l. l) (λ ps l. l) (h .1 z), rest .1),
+        (λ z. each-kind xs (λ (e : Entry flat (List Poke)). Lends WrongMemory e → ⊥) r (λ l. l) (λ l. l) (λ l. l) (λ ps l. l) (h .0 z), rest .0),
+        (λ z. each-kind xs (λ (e : Entry flat (List Poke)). Lends WrongLatches e → ⊥) r (λ l. l) (λ l. l) (λ l. l) (λ ps l. l) (h .1 z), rest .1),
       )
 
 pub served : EverySessionServed
