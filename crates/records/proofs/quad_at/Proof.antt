@@ -1,3 +1,5 @@
+-- Two words, the high one first, each as its two bytes have it.
+-- Assumes nothing.
 use Rattle.rules.specs.Choice.{pick}
 use Rattle.records.specs.Records.{quad}
 use borrow.Author.Needs.{needs}

@@ -1,3 +1,5 @@
+-- Two bytes, the high one first; their number fits sixteen bits.
+-- Assumes nothing.
 use Rattle.rules.specs.Choice.{pick}
 use Rattle.records.specs.Records.{word}
 use borrow.Author.Needs.{needs}
