@@ -43,7 +43,15 @@ put-one l at x = record { list = refl; place = refl; size = length-set l at x }
 
 -- the same bytes by another name
 pub put-as : {l l′ : List ℕ} {at q : ℕ} {xs ys : List ℕ} → xs ≡ ys → Put l at xs l′ q → Put l at ys l′ q
-put-as {l} {l′} {at} {q} e p = record { list = p .list ∙ ap (λ zs. placed at zs l) e; place = p .place ∙ ap (λ (zs : List ℕ). at + length zs) e; size = p .size }
+put-as {l} {l′} {at} {q} e p =
+    record {
+      list = p .list ∙ ap (λ (zs : List ℕ). placed at zs l) e;
+      place = p .place ∙ ap (λ (zs : List ℕ). at + length zs) e;
+      size = p .size;
+    }
+
+pub put-byte-as : {l l′ : List ℕ} {at q x y : ℕ} → x ≡ y → Put l at (x ∷ []) l′ q → Put l at (y ∷ []) l′ q
+put-byte-as e p = put-as (ap (λ (z : ℕ). z ∷ []) e) p
 
 -- ---- a line, where there is room and where there is none
 

@@ -1,22 +1,23 @@
 -- A record's bytes read as that record; and where bytes read as a record, they are the bytes of one in range.
 -- Assumes nothing.
-use Prim.Native.Nat.{ℕ, suc, _+_, _*_, _-_, _/_, _%_, _≤_, _<_}
+use Prim.Native.Nat.{ℕ, suc, _+_, _-_, _≤_, _<_}
 use native.Mathlib.Omega.{arith}
-use native.Mathlib.Numerals.{add-one}
 use mathlib.Core.Path.{_≡_, refl, sym, ap, subst, _∙_}
 use mathlib.Core.Bool.{true}
 use mathlib.Core.List.{List, [], _∷_, _++_, append-assoc}
 use borrow.Author.Tests.{leb-false, ltb-false, le-ltb, eqb-true, ne-eqb}
 use lib.Dec.{eqb, leb, ltb}
 use lib.ListN.{length, getD, take, drop, length-append, length-drop, take-append-drop}
-use lib.Seq.{drop-cons, drop-drop, length-take-le}
+use lib.Seq.{drop-drop, length-take-le}
 use Rattle.rules.specs.Choice.{pick}
 use Rattle.rules.specs.Bytes.{AreBytes}
 use Rattle.rules.proofs.Choice.{pick-false, pick-both, pick-cases}
-use Rattle.records.specs.Records.{none, short, behind, word, quad, writeRecord, readRecord, grantRecord, memoryRecord, ofKind, recordAt}
-use Rattle.records.specs.Encoding.{SessionRecord, toWrite, toRead, toGrant, toMemory, InRange, twoBytes, fourBytes, kindAndArguments, recordBytes}
+use Rattle.records.specs.Records.{none, short, behind, writeRecord, readRecord, grantRecord, memoryRecord, ofKind, recordAt}
+use Rattle.records.specs.Encoding.{SessionRecord, toWrite, toRead, toGrant, toMemory, InRange, kindAndArguments, recordBytes}
+use Rattle.records.specs.BigEndian.{numberAt, bytesOf, numbersIn, word, quad, twoBytes, fourBytes}
 use Rattle.records.specs.declared.Record.{Record}
 use Rattle.records.proofs.Bytes.{byte-small, bytes-join, bytes-take, bytes-drop}
+use Rattle.records.proofs.BigEndian.{bytes-of, bytes-long, number-of, number-small, one-back, bytes-back}
 use Rattle.records.proofs.Pieces.{record-is}
 
 -- ---- from a record to its bytes and back
@@ -28,58 +29,52 @@ found (toRead port) = record { number = 2; word = port; byte = 0; clocks = 0; st
 found (toGrant clocks) = record { number = 3; word = 0; byte = 0; clocks = clocks; start = 0; next = 7 }
 found (toMemory address bytes) = record { number = 4; word = address; byte = 0; clocks = 0; start = 5; next = 5 + length bytes }
 
-word-whole : (n : ℕ) → 256 * (n / 256) + n % 256 ≡ n
-word-whole n = omega arith
-
-quad-whole : (n : ℕ) → 65536 * (256 * (n / 65536 / 256) + n / 65536 % 256) + (256 * (n % 65536 / 256) + n % 65536 % 256) ≡ n
-quad-whole n = omega arith
-
 module _ (zs : List ℕ) where
-  found-write : (port byte : ℕ) → recordAt (recordBytes (toWrite port byte) ++ zs) 0 true ≡ found (toWrite port byte)
-  unfolding recordBytes kindAndArguments twoBytes word ofKind writeRecord pick found
-  found-write port byte =
+  found-write : (port byte : ℕ) → port < 65536 → recordAt (recordBytes (toWrite port byte) ++ zs) 0 true ≡ found (toWrite port byte)
+  unfolding recordBytes kindAndArguments bytesOf numberAt numbersIn ofKind writeRecord pick found
+  found-write port byte h =
       record-is [] [] 0 (recordBytes (toWrite port byte) ++ zs) true (omega arith)
-      ∙ (λ i. record { number = 1; word = word-whole port i; byte = byte; clocks = 0; start = 0; next = 6 })
+      ∙ (λ i. record { number = 1; word = number-of 2 port [] h i; byte = byte; clocks = 0; start = 0; next = 6 })
 
-  found-read : (port : ℕ) → recordAt (recordBytes (toRead port) ++ zs) 0 true ≡ found (toRead port)
-  unfolding recordBytes kindAndArguments twoBytes word ofKind readRecord pick found
-  found-read port =
+  found-read : (port : ℕ) → port < 65536 → recordAt (recordBytes (toRead port) ++ zs) 0 true ≡ found (toRead port)
+  unfolding recordBytes kindAndArguments bytesOf numberAt numbersIn ofKind readRecord pick found
+  found-read port h =
       record-is [] [] 0 (recordBytes (toRead port) ++ zs) true (omega arith)
-      ∙ (λ i. record { number = 2; word = word-whole port i; byte = 0; clocks = 0; start = 0; next = 5 })
+      ∙ (λ i. record { number = 2; word = number-of 2 port [] h i; byte = 0; clocks = 0; start = 0; next = 5 })
 
-  found-grant : (clocks : ℕ) → recordAt (recordBytes (toGrant clocks) ++ zs) 0 true ≡ found (toGrant clocks)
-  unfolding recordBytes kindAndArguments fourBytes twoBytes word quad ofKind grantRecord pick found
-  found-grant clocks =
+  found-grant : (clocks : ℕ) → clocks < 4294967296 → recordAt (recordBytes (toGrant clocks) ++ zs) 0 true ≡ found (toGrant clocks)
+  unfolding recordBytes kindAndArguments bytesOf numberAt numbersIn ofKind grantRecord pick found
+  found-grant clocks h =
       record-is [] [] 0 (recordBytes (toGrant clocks) ++ zs) true (omega arith)
-      ∙ (λ i. record { number = 3; word = 0; byte = 0; clocks = quad-whole clocks i; start = 0; next = 7 })
+      ∙ (λ i. record { number = 3; word = 0; byte = 0; clocks = number-of 4 clocks [] h i; start = 0; next = 7 })
 
   -- the word in front of a memory record is its length
-  memory-length : (address : ℕ) (bytes : List ℕ) → word (recordBytes (toMemory address bytes) ++ zs) 0 ≡ 3 + length bytes
-  unfolding recordBytes kindAndArguments twoBytes word
-  memory-length address bytes = omega arith
+  memory-length : (address : ℕ) (bytes : List ℕ) → length bytes ≤ 255 → word (recordBytes (toMemory address bytes) ++ zs) 0 ≡ 3 + length bytes
+  unfolding recordBytes kindAndArguments bytesOf numberAt
+  memory-length address bytes g = omega arith
 
-  memory-kind : (address : ℕ) (bytes : List ℕ) → 1 ≤ length bytes → length bytes ≤ 255 → ofKind (recordBytes (toMemory address bytes) ++ zs) 0 (3 + length bytes) 4 ≡ found (toMemory address bytes)
-  unfolding recordBytes kindAndArguments twoBytes word ofKind memoryRecord pick found
-  memory-kind address bytes h g =
+  memory-kind : (address : ℕ) (bytes : List ℕ) → address < 65536 → 1 ≤ length bytes → length bytes ≤ 255 → ofKind (recordBytes (toMemory address bytes) ++ zs) 0 (3 + length bytes) 4 ≡ found (toMemory address bytes)
+  unfolding recordBytes kindAndArguments bytesOf numberAt numbersIn ofKind memoryRecord pick found
+  memory-kind address bytes a h g =
       let z : 0 + 2 + (3 + length bytes) ≡ 5 + length bytes = omega arith in
       simp (le-ltb (3 + length bytes) 4 (omega arith), le-ltb 258 (3 + length bytes) (omega arith))
-      (λ i. record { number = 4; word = word-whole address i; byte = 0; clocks = 0; start = 5; next = z i })
+      (λ i. record { number = 4; word = number-of 2 address [] a i; byte = 0; clocks = 0; start = 5; next = z i })
 
-  found-memory : (address : ℕ) (bytes : List ℕ) → 1 ≤ length bytes → length bytes ≤ 255 → recordAt (recordBytes (toMemory address bytes) ++ zs) 0 true ≡ found (toMemory address bytes)
-  unfolding recordBytes kindAndArguments twoBytes
-  found-memory address bytes h g =
-      let n = memory-length address bytes in
+  found-memory : (address : ℕ) (bytes : List ℕ) → address < 65536 → 1 ≤ length bytes → length bytes ≤ 255 → recordAt (recordBytes (toMemory address bytes) ++ zs) 0 true ≡ found (toMemory address bytes)
+  unfolding recordBytes kindAndArguments bytesOf
+  found-memory address bytes a h g =
+      let n = memory-length address bytes g in
       record-is [] [] 0 (recordBytes (toMemory address bytes) ++ zs) true (omega (arith, n, length-append bytes zs))
       ∙ ap (λ (n : ℕ). pick (eqb n 0) (none 22 0) (ofKind (recordBytes (toMemory address bytes) ++ zs) 0 n 4)) n
       ∙ pick-false _ _ _ (ne-eqb (3 + length bytes) 0 (λ e. omega (arith, e)))
-      ∙ memory-kind address bytes h g
+      ∙ memory-kind address bytes a h g
 
 pub reads-back : (r : SessionRecord) (zs : List ℕ) → InRange r → recordAt (recordBytes r ++ zs) 0 true ≡ found r
 unfolding InRange
-reads-back (toWrite port byte) zs h = found-write zs port byte
-reads-back (toRead port) zs h = found-read zs port
-reads-back (toGrant clocks) zs h = found-grant zs clocks
-reads-back (toMemory address bytes) zs h = found-memory zs address bytes (h .1) (h .2)
+reads-back (toWrite port byte) zs h = found-write zs port byte (h .0)
+reads-back (toRead port) zs h = found-read zs port h
+reads-back (toGrant clocks) zs h = found-grant zs clocks (omega (arith, h))
+reads-back (toMemory address bytes) zs h = found-memory zs address bytes (h .0) (h .1) (h .2)
 
 -- a record in range is found as a record, and takes its bytes
 pub record Found (r : SessionRecord) : Type 0 where
@@ -89,7 +84,7 @@ pub record Found (r : SessionRecord) : Type 0 where
   pub some : 0 < found r .next
 
 pub is-found : (r : SessionRecord) → Found r
-unfolding found recordBytes kindAndArguments fourBytes twoBytes
+unfolding found recordBytes kindAndArguments bytesOf
 is-found (toWrite port byte) = record { here = λ e. omega (arith, e); right = omega arith; takes = refl; some = omega arith }
 is-found (toRead port) = record { here = λ e. omega (arith, e); right = omega arith; takes = refl; some = omega arith }
 is-found (toGrant clocks) = record { here = λ e. omega (arith, e); right = omega arith; takes = refl; some = omega arith }
@@ -97,35 +92,16 @@ is-found (toMemory address bytes) = record { here = λ e. omega (arith, e); righ
 
 -- ---- the bytes of a record in range are bytes
 
-two-long : (n : ℕ) → length (twoBytes n) ≡ 2
-unfolding twoBytes
-two-long n = refl
-
-two-bytes : (n : ℕ) → n < 65536 → AreBytes (twoBytes n)
-unfolding twoBytes AreBytes
-two-bytes n h = (omega arith, (omega arith, tt))
-
 arguments-bytes : (r : SessionRecord) → InRange r → AreBytes (kindAndArguments r)
-unfolding InRange kindAndArguments fourBytes AreBytes
-arguments-bytes (toWrite port byte) h = (omega arith, bytes-join (twoBytes port) _ (two-bytes port (h .0)) (h .1, tt))
-arguments-bytes (toRead port) h = (omega arith, two-bytes port h)
-arguments-bytes (toGrant clocks) h =
-    (omega arith, bytes-join (twoBytes (clocks / 65536)) _ (two-bytes _ (omega arith)) (two-bytes (clocks % 65536) (omega arith)))
-arguments-bytes (toMemory address bytes) h = (omega arith, bytes-join (twoBytes address) bytes (two-bytes address (h .0)) (h .3))
-
-arguments-long : (r : SessionRecord) → InRange r → length (kindAndArguments r) ≤ 258
-unfolding InRange kindAndArguments fourBytes twoBytes
-arguments-long (toWrite port byte) h = omega arith
-arguments-long (toRead port) h = omega arith
-arguments-long (toGrant clocks) h = omega arith
-arguments-long (toMemory address bytes) h = omega arith
+unfolding InRange kindAndArguments AreBytes
+arguments-bytes (toWrite port byte) h = (omega arith, bytes-join (twoBytes port) _ (bytes-of 2 port) (h .1, tt))
+arguments-bytes (toRead port) h = (omega arith, bytes-of 2 port)
+arguments-bytes (toGrant clocks) h = (omega arith, bytes-of 4 clocks)
+arguments-bytes (toMemory address bytes) h = (omega arith, bytes-join (twoBytes address) bytes (bytes-of 2 address) (h .3))
 
 pub are-bytes : (r : SessionRecord) → InRange r → AreBytes (recordBytes r)
 unfolding recordBytes
-are-bytes r h =
-    bytes-join (twoBytes (length (kindAndArguments r))) (kindAndArguments r)
-    (two-bytes (length (kindAndArguments r)) (omega (arith, arguments-long r h)))
-    (arguments-bytes r h)
+are-bytes r h = bytes-join (twoBytes (length (kindAndArguments r))) (kindAndArguments r) (bytes-of 2 (length (kindAndArguments r))) (arguments-bytes r h)
 
 -- ---- from bytes to a record in range
 
@@ -137,41 +113,12 @@ pub record Written (ys : List ℕ) (r : Record) : Type 0 where
 
 module _ (ys : List ℕ) (small : AreBytes ys) where
   word-small : (i : ℕ) → word ys i < 65536
-  unfolding word
-  word-small i = omega (arith, byte-small ys small i, byte-small ys small (i + 1))
-
-  one-back : (i : ℕ) → i < length ys → getD ys i 0 ∷ drop (i + 1) ys ≡ drop i ys
-  one-back i h = ap (λ (n : ℕ). getD ys i 0 ∷ drop n ys) (add-one i) ∙ sym (drop-cons ys i 0 h)
-
-  -- the word at a place, in two bytes, is the two bytes there
-  two-of : (i : ℕ) → twoBytes (word ys i) ≡ getD ys i 0 ∷ getD ys (i + 1) 0 ∷ []
-  unfolding twoBytes word
-  two-of i =
-      let high : (256 * getD ys i 0 + getD ys (i + 1) 0) / 256 ≡ getD ys i 0 = omega (arith, byte-small ys small (i + 1)) in
-      let low : (256 * getD ys i 0 + getD ys (i + 1) 0) % 256 ≡ getD ys (i + 1) 0 = omega (arith, byte-small ys small (i + 1)) in
-      λ j. high j ∷ low j ∷ []
-
-  two-back : (i : ℕ) → i + 2 ≤ length ys → twoBytes (word ys i) ++ drop (i + 2) ys ≡ drop i ys
-  two-back i h =
-      ap (λ (l : List ℕ). l ++ drop (i + 2) ys) (two-of i)
-      ∙ ap (λ (n : ℕ). getD ys i 0 ∷ getD ys (i + 1) 0 ∷ drop n ys) (let z : i + 2 ≡ i + 1 + 1 = omega arith in z)
-      ∙ ap (λ (l : List ℕ). getD ys i 0 ∷ l) (one-back (i + 1) (omega arith))
-      ∙ one-back i (omega arith)
+  unfolding numbersIn
+  word-small i = number-small ys small 2 i
 
   quad-small : (i : ℕ) → quad ys i < 4294967296
-  unfolding quad
-  quad-small i = omega (arith, word-small i, word-small (i + 2))
-
-  four-back : (i : ℕ) → i + 4 ≤ length ys → fourBytes (quad ys i) ++ drop (i + 4) ys ≡ drop i ys
-  unfolding quad fourBytes
-  four-back i h =
-      let high : (65536 * word ys i + word ys (i + 2)) / 65536 ≡ word ys i = omega (arith, word-small (i + 2)) in
-      let low : (65536 * word ys i + word ys (i + 2)) % 65536 ≡ word ys (i + 2) = omega (arith, word-small (i + 2)) in
-      (λ j. (twoBytes (high j) ++ twoBytes (low j)) ++ drop (i + 4) ys)
-      ∙ append-assoc (twoBytes (word ys i)) (twoBytes (word ys (i + 2))) (drop (i + 4) ys)
-      ∙ ap (λ (n : ℕ). twoBytes (word ys i) ++ (twoBytes (word ys (i + 2)) ++ drop n ys)) (let z : i + 4 ≡ i + 2 + 2 = omega arith in z)
-      ∙ ap (λ (l : List ℕ). twoBytes (word ys i) ++ l) (two-back (i + 2) (omega arith))
-      ∙ two-back i (omega arith)
+  unfolding numbersIn
+  quad-small i = number-small ys small 4 i
 
   -- a record whose length, kind and arguments are those at the front
   whole-back : (what : SessionRecord) (args : List ℕ) (kind next : ℕ) → kindAndArguments what ≡ kind ∷ args → getD ys 2 0 ≡ kind → 1 + length args ≡ word ys 0 → 3 ≤ length ys → args ++ drop next ys ≡ drop 3 ys → recordBytes what ++ drop next ys ≡ ys
@@ -180,15 +127,15 @@ module _ (ys : List ℕ) (small : AreBytes ys) where
       ap (λ (b : List ℕ). (twoBytes (length b) ++ b) ++ drop next ys) e
       ∙ append-assoc (twoBytes (suc (length args))) (kind ∷ args) (drop next ys)
       ∙ (λ i. twoBytes (size i) ++ (sym k i ∷ h i))
-      ∙ ap (λ (b : List ℕ). twoBytes (word ys 0) ++ b) (one-back 2 (omega arith))
-      ∙ two-back 0 (omega arith)
+      ∙ ap (λ (b : List ℕ). twoBytes (word ys 0) ++ b) (one-back ys small 2 (omega arith))
+      ∙ bytes-back ys small 2 0 (omega arith)
     where
       size : suc (length args) ≡ word ys 0
       size = omega (arith, n)
 
   -- kind by kind
   write-back : 6 ≤ length ys → word ys 0 ≡ 4 → getD ys 2 0 ≡ 1 → Written ys (record { number = 1; word = word ys 3; byte = getD ys 5 0; clocks = 0; start = 0; next = 6 })
-  unfolding kindAndArguments twoBytes InRange
+  unfolding kindAndArguments bytesOf InRange
   write-back l n k =
       record {
         what = toWrite (word ys 3) (getD ys 5 0);
@@ -196,28 +143,28 @@ module _ (ys : List ℕ) (small : AreBytes ys) where
         bytes =
             whole-back (toWrite (word ys 3) (getD ys 5 0)) (twoBytes (word ys 3) ++ (getD ys 5 0 ∷ [])) 1 6 refl k (omega (arith, n)) (omega arith)
             (append-assoc (twoBytes (word ys 3)) (getD ys 5 0 ∷ []) (drop 6 ys)
-            ∙ ap (λ (b : List ℕ). twoBytes (word ys 3) ++ b) (one-back 5 (omega arith))
-            ∙ two-back 3 (omega arith));
+            ∙ ap (λ (b : List ℕ). twoBytes (word ys 3) ++ b) (one-back ys small 5 (omega arith))
+            ∙ bytes-back ys small 2 3 (omega arith));
       }
 
   read-back : 5 ≤ length ys → word ys 0 ≡ 3 → getD ys 2 0 ≡ 2 → Written ys (record { number = 2; word = word ys 3; byte = 0; clocks = 0; start = 0; next = 5 })
-  unfolding kindAndArguments twoBytes InRange
+  unfolding kindAndArguments bytesOf InRange
   read-back l n k =
       record {
         what = toRead (word ys 3);
         range = word-small 3;
         bytes =
-            whole-back (toRead (word ys 3)) (twoBytes (word ys 3)) 2 5 refl k (omega (arith, n)) (omega arith) (two-back 3 (omega arith));
+            whole-back (toRead (word ys 3)) (twoBytes (word ys 3)) 2 5 refl k (omega (arith, n)) (omega arith) (bytes-back ys small 2 3 (omega arith));
       }
 
   grant-back : 7 ≤ length ys → word ys 0 ≡ 5 → getD ys 2 0 ≡ 3 → Written ys (record { number = 3; word = 0; byte = 0; clocks = quad ys 3; start = 0; next = 7 })
-  unfolding kindAndArguments fourBytes twoBytes InRange
+  unfolding kindAndArguments bytesOf InRange
   grant-back l n k =
       record {
         what = toGrant (quad ys 3);
         range = quad-small 3;
         bytes =
-            whole-back (toGrant (quad ys 3)) (fourBytes (quad ys 3)) 3 7 refl k (omega (arith, n)) (omega arith) (four-back 3 (omega arith));
+            whole-back (toGrant (quad ys 3)) (fourBytes (quad ys 3)) 3 7 refl k (omega (arith, n)) (omega arith) (bytes-back ys small 4 3 (omega arith));
       }
 
   -- so many bytes from place 5 on, and the rest
@@ -236,11 +183,11 @@ module _ (ys : List ℕ) (small : AreBytes ys) where
         range = (word-small 3, omega (arith, size), omega (arith, size), bytes-take (word ys 0 - 3) (drop 5 ys) (bytes-drop 5 ys small));
         bytes =
             whole-back (toMemory (word ys 3) (take (word ys 0 - 3) (drop 5 ys))) (twoBytes (word ys 3) ++ take (word ys 0 - 3) (drop 5 ys)) 4 (2 + word ys 0) refl k
-            (omega (arith, size, length-append (twoBytes (word ys 3)) (take (word ys 0 - 3) (drop 5 ys)), two-long (word ys 3)))
+            (omega (arith, size, length-append (twoBytes (word ys 3)) (take (word ys 0 - 3) (drop 5 ys)), bytes-long 2 (word ys 3)))
             (omega arith)
             (append-assoc (twoBytes (word ys 3)) (take (word ys 0 - 3) (drop 5 ys)) (drop (2 + word ys 0) ys)
             ∙ ap (λ (b : List ℕ). twoBytes (word ys 3) ++ b) (rest-back (word ys 0) (omega arith))
-            ∙ two-back 3 (omega arith));
+            ∙ bytes-back ys small 2 3 (omega arith));
       }
 
   -- what stands at the front is such a record, unless it is the end or a fault

@@ -8,26 +8,15 @@ use mathlib.Core.List.{List}
 use borrow.Author.Tests.{le-leb, lt-leb, leb-true, leb-false}
 use lib.Dec.{eqb, leb, ltb}
 use lib.ListN.{length, getD, drop, length-drop}
-use lib.Seq.{getD-drop}
 use Rattle.rules.specs.Choice.{pick}
 use Rattle.rules.proofs.Choice.{either}
-use Rattle.records.specs.Records.{none, short, behind, word, quad, writeRecord, readRecord, grantRecord, memoryRecord, ofKind, recordAt, longLength}
+use Rattle.records.specs.Records.{none, short, behind, writeRecord, readRecord, grantRecord, memoryRecord, ofKind, recordAt, longLength}
+use Rattle.records.specs.BigEndian.{word}
 use Rattle.records.specs.declared.Record.{Record}
 use Rattle.records.proofs.Choosing.{lift}
+use Rattle.records.proofs.BigEndian.{byte-moves, number-moves}
 
 module _ (k : ℕ) (xs : List ℕ) where
-  -- a place of the whole list, and the same place of the rest
-  pub byte-moves : (i i′ : ℕ) → i′ ≡ k + i → getD xs i′ 0 ≡ getD (drop k xs) i 0
-  byte-moves i i′ e = ap (λ (n : ℕ). getD xs n 0) e ∙ sym (getD-drop k xs i 0)
-
-  word-moves : (i i′ : ℕ) → i′ ≡ k + i → word xs i′ ≡ word (drop k xs) i
-  unfolding word
-  word-moves i i′ e = simp (byte-moves i i′ e, byte-moves (i + 1) (i′ + 1) (omega (arith, e)))
-
-  quad-moves : (i i′ : ℕ) → i′ ≡ k + i → quad xs i′ ≡ quad (drop k xs) i
-  unfolding quad
-  quad-moves i i′ e = simp (word-moves i i′ e, word-moves (i + 2) (i′ + 2) (omega (arith, e)))
-
   -- a record found in the rest, as it is found in the whole list
   unfoldable pub moved : Record → Record
   moved r =
@@ -67,22 +56,22 @@ module _ (k : ℕ) (xs : List ℕ) where
     unfolding moved pick
     memory-found n =
         let z : q + 2 + n ≡ k + (p + 2 + n) = omega (arith, e) in
-        λ i. record { number = 4; word = word-moves (p + 3) (q + 3) (on 3) i; byte = 0; clocks = 0; start = on 5 i; next = z i }
+        λ i. record { number = 4; word = number-moves 2 k xs (p + 3) (q + 3) (on 3) i; byte = 0; clocks = 0; start = on 5 i; next = z i }
 
     write-moves : (n : ℕ) → writeRecord xs q n ≡ moved (writeRecord (drop k xs) p n)
     unfolding writeRecord
     write-moves n =
         lift moved _ _ _ _ refl
-        (found-moves 1 6 refl (word-moves (p + 3) (q + 3) (on 3)) (byte-moves (p + 5) (q + 5) (on 5)) refl)
+        (found-moves 1 6 refl (number-moves 2 k xs (p + 3) (q + 3) (on 3)) (byte-moves k xs (p + 5) (q + 5) (on 5)) refl)
         (none-moves 22 refl)
 
     read-moves : (n : ℕ) → readRecord xs q n ≡ moved (readRecord (drop k xs) p n)
     unfolding readRecord
-    read-moves n = lift moved _ _ _ _ refl (found-moves 2 5 refl (word-moves (p + 3) (q + 3) (on 3)) refl refl) (none-moves 22 refl)
+    read-moves n = lift moved _ _ _ _ refl (found-moves 2 5 refl (number-moves 2 k xs (p + 3) (q + 3) (on 3)) refl refl) (none-moves 22 refl)
 
     grant-moves : (n : ℕ) → grantRecord xs q n ≡ moved (grantRecord (drop k xs) p n)
     unfolding grantRecord
-    grant-moves n = lift moved _ _ _ _ refl (found-moves 3 7 refl refl refl (quad-moves (p + 3) (q + 3) (on 3))) (none-moves 22 refl)
+    grant-moves n = lift moved _ _ _ _ refl (found-moves 3 7 refl refl refl (number-moves 4 k xs (p + 3) (q + 3) (on 3))) (none-moves 22 refl)
 
     memory-moves : (n : ℕ) → memoryRecord xs q n ≡ moved (memoryRecord (drop k xs) p n)
     unfolding memoryRecord
@@ -116,12 +105,12 @@ module _ (k : ℕ) (xs : List ℕ) where
     record-moves ended =
         lift moved _ _ _ _ test-here (behind-moves ended)
         (lift moved _ _ _ _ (test-moves 1) (short-moves ended)
-        (lift moved _ _ _ _ (λ i. ltb (rest-moves 2 i) (word-moves p q e i)) (short-moves ended)
-        (lift moved _ _ _ _ (λ i. eqb (word-moves p q e i) 0) (none-moves 22 refl)
-        ((λ i. ofKind xs q (word-moves p q e i) (byte-moves (p + 2) (q + 2) (on 2) i))
+        (lift moved _ _ _ _ (λ i. ltb (rest-moves 2 i) (number-moves 2 k xs p q e i)) (short-moves ended)
+        (lift moved _ _ _ _ (λ i. eqb (number-moves 2 k xs p q e i) 0) (none-moves 22 refl)
+        ((λ i. ofKind xs q (number-moves 2 k xs p q e i) (byte-moves k xs (p + 2) (q + 2) (on 2) i))
         ∙ kind-moves (word (drop k xs) p) (getD (drop k xs) (p + 2) 0)))))
 
     pub long-moves : longLength xs q ≡ longLength (drop k xs) p
     unfolding longLength
     long-moves =
-        λ i. pick (test-here i) 0 (pick (test-moves 1 i) 0 (pick (ltb 258 (word-moves p q e i)) (word-moves p q e i) 0))
+        λ i. pick (test-here i) 0 (pick (test-moves 1 i) 0 (pick (ltb 258 (number-moves 2 k xs p q e i)) (number-moves 2 k xs p q e i) 0))

@@ -1,6 +1,6 @@
 -- A record that is whole stays the record that it is, whatever bytes come.
 -- Assumes nothing.
-use Prim.Native.Nat.{ℕ, _+_, _-_, _≤_, _<_}
+use Prim.Native.Nat.{ℕ, _+_, _-_, _≤_}
 use native.Mathlib.Omega.{arith}
 use native.Mathlib.Nat.{pos-of-ne-zero}
 use mathlib.Core.Path.{_≡_, refl, sym, ap, subst, _∙_}
@@ -8,12 +8,14 @@ use mathlib.Core.Bool.{Bool, true, false}
 use mathlib.Core.List.{List, _++_}
 use borrow.Author.Tests.{lt-leb, leb-false, le-ltb, ltb-false, eqb-true, eqb-false}
 use lib.Dec.{eqb, leb, ltb}
-use lib.ListN.{length, getD, length-append, List·getD-append}
+use lib.ListN.{length, getD, length-append}
 use Rattle.rules.specs.Choice.{pick}
 use Rattle.rules.proofs.Choice.{pick-false, pick-both, pick-cases, either}
-use Rattle.records.specs.Records.{none, short, behind, word, quad, writeRecord, readRecord, grantRecord, memoryRecord, ofKind, recordAt, longLength}
+use Rattle.records.specs.Records.{none, short, behind, writeRecord, readRecord, grantRecord, memoryRecord, ofKind, recordAt, longLength}
+use Rattle.records.specs.BigEndian.{word}
 use Rattle.records.specs.declared.Record.{Record}
 use Rattle.records.proofs.Choosing.{same}
+use Rattle.records.proofs.BigEndian.{byte-stays, number-stays}
 
 -- the bytes of a record for the memory are at hand
 unfoldable pub Within : List ℕ → Record → Type 0
@@ -22,17 +24,6 @@ Within xs r = r .number ≡ 4 → (r .start ≤ r .next) × (r .next ≤ length 
 module _ (xs ys : List ℕ) where
   pub longer : length xs ≤ length (xs ++ ys)
   longer = omega (arith, length-append xs ys)
-
-  pub byte-stays : (i : ℕ) → i < length xs → getD (xs ++ ys) i 0 ≡ getD xs i 0
-  byte-stays i h = List·getD-append xs ys 0 i h
-
-  word-stays : (i : ℕ) → i + 2 ≤ length xs → word (xs ++ ys) i ≡ word xs i
-  unfolding word
-  word-stays i h = simp (byte-stays i (omega arith), byte-stays (i + 1) (omega arith))
-
-  quad-stays : (i : ℕ) → i + 4 ≤ length xs → quad (xs ++ ys) i ≡ quad xs i
-  unfolding quad
-  quad-stays i h = simp (word-stays i (omega arith), word-stays (i + 2) (omega arith))
 
   module _ (p : ℕ) where
     kind-stays : (n k : ℕ) → p + 2 + n ≤ length xs → ofKind (xs ++ ys) p n k ≡ ofKind xs p n k
@@ -43,21 +34,21 @@ module _ (xs ys : List ℕ) where
         (λ f. let
         z : n ≡ 4 = eqb-true n 4 f
         in
-        simp (word-stays (p + 3) (omega arith), byte-stays (p + 5) (omega arith)))
+        simp (number-stays 2 xs ys (p + 3) (omega arith), byte-stays xs ys (p + 5) (omega arith)))
         (λ f. refl))
         (λ e. same (eqb k 2) _ _ _ _
         (λ e. same (eqb n 3) _ _ _ _
         (λ f. let
         z : n ≡ 3 = eqb-true n 3 f
         in
-        simp (word-stays (p + 3) (omega arith)))
+        simp (number-stays 2 xs ys (p + 3) (omega arith)))
         (λ f. refl))
         (λ e. same (eqb k 3) _ _ _ _
         (λ e. same (eqb n 5) _ _ _ _
         (λ f. let
         z : n ≡ 5 = eqb-true n 5 f
         in
-        simp (quad-stays (p + 3) (omega arith)))
+        simp (number-stays 4 xs ys (p + 3) (omega arith)))
         (λ f. refl))
         (λ e. same (eqb k 4) _ _ _ _
         (λ e. same (ltb n 4) _ _ _ _ (λ f. refl)
@@ -65,7 +56,7 @@ module _ (xs ys : List ℕ) where
         (λ g. let
         z : 4 ≤ n = ltb-false n 4 f
         in
-        simp (word-stays (p + 3) (omega arith)))))
+        simp (number-stays 2 xs ys (p + 3) (omega arith)))))
         (λ e. refl))))
 
     -- what stands at a place where more bytes may come and are not needed: its length is there, and all of its bytes
@@ -105,10 +96,10 @@ module _ (xs ys : List ℕ) where
 
     pub record-stays : Whole → (e : Bool) → recordAt (xs ++ ys) p e ≡ recordAt xs p false
     record-stays w e =
-        record-is (xs ++ ys) e (omega (arith, w .bytes-there, longer, word-stays p (w .length-there)))
-        ∙ ap (λ (n : ℕ). pick (eqb n 0) (none 22 p) (ofKind (xs ++ ys) p n (getD (xs ++ ys) (p + 2) 0))) (word-stays p (w .length-there))
+        record-is (xs ++ ys) e (omega (arith, w .bytes-there, longer, number-stays 2 xs ys p (w .length-there)))
+        ∙ ap (λ (n : ℕ). pick (eqb n 0) (none 22 p) (ofKind (xs ++ ys) p n (getD (xs ++ ys) (p + 2) 0))) (number-stays 2 xs ys p (w .length-there))
         ∙ same (eqb (word xs p) 0) _ _ _ _ (λ f. refl)
-        (λ f. ap (ofKind (xs ++ ys) p (word xs p)) (byte-stays (p + 2) (omega (arith, w .bytes-there, pos-of-ne-zero (eqb-false (word xs p) 0 f))))
+        (λ f. ap (ofKind (xs ++ ys) p (word xs p)) (byte-stays xs ys (p + 2) (omega (arith, w .bytes-there, pos-of-ne-zero (eqb-false (word xs p) 0 f))))
         ∙ kind-stays (word xs p) (getD xs (p + 2) 0) (w .bytes-there))
         ∙ sym (record-is xs false (w .bytes-there))
 
@@ -120,7 +111,7 @@ module _ (xs ys : List ℕ) where
           lt-leb (length (xs ++ ys)) (p + 1) (omega (arith, longer)),
           lt-leb (length xs) p (omega arith),
           lt-leb (length xs) (p + 1) (omega arith),
-          word-stays p h,
+          number-stays 2 xs ys p h,
         )
 
     within-kind : (n k : ℕ) → p + 2 + n ≤ length xs → Within xs (ofKind xs p n k)

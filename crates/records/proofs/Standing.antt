@@ -13,7 +13,8 @@ use lib.ListN.{length, getD}
 use Rattle.rules.specs.Choice.{pick}
 use Rattle.rules.specs.Bytes.{AreBytes}
 use Rattle.rules.proofs.Choice.{pick-true, pick-false, pick-both, pick-cases}
-use Rattle.records.specs.Records.{none, short, behind, word, writeRecord, readRecord, grantRecord, memoryRecord, ofKind, recordAt, longLength}
+use Rattle.records.specs.Records.{none, short, behind, writeRecord, readRecord, grantRecord, memoryRecord, ofKind, recordAt, longLength}
+use Rattle.records.specs.BigEndian.{word}
 use Rattle.records.specs.declared.Record.{Record}
 use Rattle.records.proofs.Bytes.{byte-small}
 

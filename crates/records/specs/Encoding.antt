@@ -1,9 +1,10 @@
 -- A record as it is written: what it asks for, and its bytes. Numbers are high byte first.
 -- Assumes nothing.
-use Prim.Native.Nat.{ℕ, _/_, _%_, _≤_, _<_}
+use Prim.Native.Nat.{ℕ, _≤_, _<_}
 use mathlib.Core.List.{List, [], _∷_, _++_}
 use lib.ListN.{length}
 use Rattle.rules.specs.Bytes.{AreBytes}
+use Rattle.records.specs.BigEndian.{twoBytes, fourBytes}
 use Rattle.records.specs.Records.{writeKind, readKind, grantKind, memoryKind}
 
 -- a record by what it asks for: a port write (port, byte), a port read (port), a grant (clocks), bytes for the memory
@@ -20,13 +21,6 @@ InRange (toWrite port byte) = (port < 65536) × (byte < 256)
 InRange (toRead port) = port < 65536
 InRange (toGrant clocks) = clocks < 4294967296
 InRange (toMemory address bytes) = (address < 65536) × (1 ≤ length bytes) × (length bytes ≤ 255) × AreBytes bytes
-
--- a number in two bytes, and in four
-unfoldable pub twoBytes : ℕ → List ℕ
-twoBytes n = n / 256 ∷ n % 256 ∷ []
-
-unfoldable pub fourBytes : ℕ → List ℕ
-fourBytes n = twoBytes (n / 65536) ++ twoBytes (n % 65536)
 
 -- a record behind its length: its kind and its arguments
 unfoldable pub kindAndArguments : SessionRecord → List ℕ

@@ -2,20 +2,14 @@
 -- more bytes come. A record is a length in two bytes and so many bytes after it, the first of them its kind; numbers are
 -- high byte first.
 -- Assumes nothing.
-use Prim.Native.Nat.{ℕ, _+_, _*_, _-_}
+use Prim.Native.Nat.{ℕ, _+_, _-_}
 use mathlib.Core.Bool.{Bool}
 use mathlib.Core.List.{List}
 use lib.Dec.{eqb, leb, ltb}
 use lib.ListN.{length, getD}
 use Rattle.rules.specs.Choice.{pick}
+use Rattle.records.specs.BigEndian.{word, quad}
 use Rattle.records.specs.declared.Record.{Record}
-
--- the number of two bytes, and of four
-unfoldable pub word : List ℕ → ℕ → ℕ
-word xs p = 256 * getD xs p 0 + getD xs (p + 1) 0
-
-unfoldable pub quad : List ℕ → ℕ → ℕ
-quad xs p = 65536 * word xs p + word xs (p + 2)
 
 -- the version of a session, its first byte
 abbrev pub version : ℕ

@@ -2,8 +2,9 @@
 ghost use mathlib.Core.Path.{_≡_};
 ghost use Prim.Native.Nat.{_+_, _*_, _≤_, _<_};
 ghost use lib.ListN.{length, getD, set};
-ghost use Rattle.records.specs.Records.{word, quad, short, behind, writeRecord, readRecord, grantRecord, memoryRecord, ofKind, recordAt, longLength};
+ghost use Rattle.records.specs.Records.{short, behind, writeRecord, readRecord, grantRecord, memoryRecord, ofKind, recordAt, longLength};
 ghost use Rattle.records.specs.Records.{none as noRecord};
+ghost use Rattle.records.specs.BigEndian.{word, quad};
 
 // What stands at a place of a session's bytes.
 pub struct Record {

@@ -3,12 +3,13 @@
 use mathlib.Core.Path.{refl}
 use Rattle.rules.specs.Opened.{opened}
 use Rattle.rules.specs.Entries.{run}
-use Rattle.records.specs.Records.{word, quad, short, behind, writeRecord, readRecord, grantRecord, memoryRecord, ofKind, recordAt}
+use Rattle.records.specs.BigEndian.{numberAt}
+use Rattle.records.specs.Records.{short, behind, writeRecord, readRecord, grantRecord, memoryRecord, ofKind, recordAt}
 use Rattle.lines.specs.Lines.{decimalTo, hexDigit, readLine, recordLine}
 use Rattle.session.specs.Effects.{pokes, entryOf}
 use Rattle.runs.specs.Sessions.{decodedFrom, decoded, entriesOf, linesOf, lastLine}
 use Rattle.runs.specs.Examples.{asciiFrom, writes, seen, must, ExamplesHold}
 
 pub examples-hold : ExamplesHold
-unfolding opened word quad short behind writeRecord readRecord grantRecord memoryRecord ofKind recordAt decimalTo hexDigit readLine recordLine pokes entryOf decodedFrom decoded entriesOf run linesOf lastLine asciiFrom writes seen must
+unfolding opened numberAt short behind writeRecord readRecord grantRecord memoryRecord ofKind recordAt decimalTo hexDigit readLine recordLine pokes entryOf decodedFrom decoded entriesOf run linesOf lastLine asciiFrom writes seen must
 examples-hold = refl

@@ -11,7 +11,7 @@ use Rattle.rules.specs.Choice.{pick}
 use Rattle.rules.specs.Buffers.{Buffers, flat}
 use Rattle.rules.specs.Entries.{Poke, flatOutside, Entry, outsideChange, enter}
 use Rattle.rules.proofs.Choice.{pick-true, pick-ap, either}
-use Rattle.records.specs.Records.{word, recordAt, longLength}
+use Rattle.records.specs.Records.{recordAt, longLength}
 use Rattle.session.specs.Effects.{pokes, entryOf}
 use Rattle.session.specs.Steps.{Said, Outcome, inPhase, withoutLine, buffersKept, lastFault, carried, systemWith, versionStep, longStep, byRecord, recordStep, stepOf}
 use Rattle.runs.specs.Moving.{farther, StepMoves}
@@ -19,7 +19,8 @@ use Rattle.records.specs.declared.Record.{Record}
 use Rattle.session.specs.declared.step.Session.{Session}
 use Rattle.session.proofs.Steps.{without-room, at-version, at-record, at-long, at-over}
 use Rattle.records.proofs.Choosing.{same, lift}
-use Rattle.records.proofs.Moving.{byte-moves, moved, test-here, record-moves, long-moves}
+use Rattle.records.proofs.BigEndian.{byte-moves}
+use Rattle.records.proofs.Moving.{moved, test-here, record-moves, long-moves}
 
 module _ (k : ℕ) (xs : List ℕ) where
   pub pokes-move : (n i i′ a : ℕ) → i′ ≡ k + i → pokes n xs i′ a ≡ pokes n (drop k xs) i a

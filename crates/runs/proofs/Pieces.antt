@@ -12,7 +12,8 @@ use Rattle.rules.specs.Choice.{pick}
 use Rattle.rules.specs.Buffers.{Buffers, flat}
 use Rattle.rules.specs.Entries.{Poke, flatOutside, Entry, outsideChange, enter}
 use Rattle.rules.proofs.Choice.{pick-true, pick-false, pick-both, pick-cases, either}
-use Rattle.records.specs.Records.{none, word, ofKind, recordAt, longLength}
+use Rattle.records.specs.Records.{none, ofKind, recordAt, longLength}
+use Rattle.records.specs.BigEndian.{word}
 use Rattle.session.specs.Effects.{pokes, entryOf}
 use Rattle.session.specs.Steps.{Said, Outcome, inPhase, withoutLine, buffersKept, lastFault, lastCounts, carried, systemWith, versionStep, longStep, byRecord, recordStep, stepOf}
 use Rattle.runs.specs.Pieces.{next, StepStands}
@@ -21,7 +22,8 @@ use Rattle.session.specs.declared.step.Session.{Session}
 use Rattle.session.proofs.Steps.{without-room, at-version, at-record, at-long, at-over}
 use Rattle.records.proofs.Choosing.{same}
 use Rattle.records.proofs.Standing.{stands-kind, long-there}
-use Rattle.records.proofs.Pieces.{longer, byte-stays, waits-behind, waits-length, waits-bytes, whole, record-is, record-stays, long-stays, Within, within}
+use Rattle.records.proofs.BigEndian.{byte-stays}
+use Rattle.records.proofs.Pieces.{longer, waits-behind, waits-length, waits-bytes, whole, record-is, record-stays, long-stays, Within, within}
 
 module _ (xs ys : List ℕ) where
   pokes-stay : (n i a : ℕ) → i + n ≤ length xs → pokes n (xs ++ ys) i a ≡ pokes n xs i a

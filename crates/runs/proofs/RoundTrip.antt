@@ -15,7 +15,8 @@ use Rattle.rules.specs.Bytes.{AreBytes}
 use Rattle.rules.specs.Entries.{Poke, outsideChange}
 use Rattle.rules.proofs.Choice.{pick-true, pick-false, either}
 use Rattle.records.specs.Records.{recordAt}
-use Rattle.records.specs.Encoding.{SessionRecord, toWrite, toRead, toGrant, toMemory, InRange, twoBytes, kindAndArguments, recordBytes}
+use Rattle.records.specs.Encoding.{SessionRecord, toWrite, toRead, toGrant, toMemory, InRange, kindAndArguments, recordBytes}
+use Rattle.records.specs.BigEndian.{bytesOf}
 use Rattle.records.specs.declared.Record.{Record}
 use Rattle.records.proofs.Bytes.{bytes-join, bytes-drop}
 use Rattle.records.proofs.Standing.{stands, at-end}
@@ -37,7 +38,7 @@ pokes-of (byte ∷ bytes) zs address =
     ∙ pokes-of bytes zs ((address + 1) % 65536))
 
 memory-entry : (address : ℕ) (bytes zs : List ℕ) → pokes (5 + length bytes - 5) (recordBytes (toMemory address bytes) ++ zs) 5 address ≡ bytesFrom address bytes
-unfolding recordBytes kindAndArguments twoBytes
+unfolding recordBytes kindAndArguments bytesOf
 memory-entry address bytes zs =
     ap (λ (n : ℕ). pokes n (recordBytes (toMemory address bytes) ++ zs) 5 address) (let z : 5 + length bytes - 5 ≡ length bytes = omega arith in z)
     ∙ pokes-move 5 (recordBytes (toMemory address bytes) ++ zs) (length bytes) 0 5 address refl

@@ -3,8 +3,7 @@
 use Prim.Native.Nat.{ℕ, _<_}
 use native.Mathlib.Nat.{pos-of-ne-zero}
 use native.Mathlib.Omega.{arith}
-use mathlib.Core.Path.{ap, _∙_}
-use mathlib.Core.List.{[], _∷_}
+use mathlib.Core.Path.{_∙_}
 use borrow.Fn.Kinds.{In}
 use borrow.Fn.PlainCycle.{Measures, is, falls, and}
 use Rattle.lines.proofs.put_decimal.Reads as put_decimal
@@ -14,7 +13,7 @@ use Rattle.lines.proofs.digit.Reads as digit
 use Rattle.lines.proofs.+put_decimal.Lts-put_decimal as lts
 use Rattle.lines.proofs.+put_decimal.{statement}
 use Rattle.lines.proofs.+put_decimal.Tie.{close}
-use Rattle.lines.proofs.Lines.{put-more, put-as, put-none, decimal-small, decimal-more}
+use Rattle.lines.proofs.Lines.{put-more, put-as, put-byte-as, put-none, decimal-small, decimal-more}
 
 abbrev μ : Measures 1 kinds.ps ℕ
 μ κs a = a .0
@@ -38,25 +37,53 @@ same-length : (t : ℕ) → lts.Need-same-length (digit.Asked, digit.Learnt, put
 same-length t c = c .before .before .put-byte .ensures .size
 
 returns-2 : (t : ℕ) → lts.Need-returns-2 (digit.Asked, digit.Learnt, put_byte.Asked, put_byte.Learnt, below t, put_decimal.Post) (at t) put_decimal.Post
-returns-2 t c = (put-as (decimal-small _ _ (pos-of-ne-zero (c .before .before .before .before .before .before .if1 .left)) (c .before .before .before .before .before .if2 .taken)) (put-as (ap (λ (x : ℕ). x ∷ []) (c .before .before .before .before .digit .ensures)) (c .before .before .put-byte .ensures)), omega (arith, pos-of-ne-zero (c .before .before .before .before .before .before .if1 .left), c .before .before .put-byte .ensures .place))
+returns-2 t c =
+    let put = c .before .before in
+    let small = put .before .before .before in
+    let some = pos-of-ne-zero (small .before .if1 .left) in
+    (put-as (decimal-small _ _ some (small .if2 .taken)) (put-byte-as (put .before .before .digit .ensures) (put .put-byte .ensures)), omega (arith, some, put .put-byte .ensures .place))
 
 sub-put-decimal : (t : ℕ) → lts.Need-sub-put-decimal (digit.Asked, digit.Learnt, put_byte.Asked, put_byte.Learnt, below t, put_decimal.Post) (at t) put_decimal.Post
 sub-put-decimal t c = pos-of-ne-zero (c .before .if1 .left)
 
 put-decimal-requires : (t : ℕ) → lts.Need-put-decimal-requires (digit.Asked, digit.Learnt, put_byte.Asked, put_byte.Learnt, below t, put_decimal.Post) (at t) put_decimal.Post
-put-decimal-requires t c = λ _. (omega (arith, c .before .before .before .before .pre .0, pos-of-ne-zero (c .before .before .if1 .left)), omega (arith, c .before .before .before .before .pre .1, pos-of-ne-zero (c .before .before .if1 .left)))
+put-decimal-requires t c =
+    let some = pos-of-ne-zero (c .before .before .if1 .left) in
+    let start = c .before .before .before .before in
+    λ _. (omega (arith, start .pre .0, some), omega (arith, start .pre .1, some))
 
 digit-requires-2 : (t : ℕ) → lts.Need-digit-requires-2 (digit.Asked, digit.Learnt, put_byte.Asked, put_byte.Learnt, below t, put_decimal.Post) (at t) put_decimal.Post
 digit-requires-2 t c = λ _. omega arith
 
 put-byte-requires-2 : (t : ℕ) → lts.Need-put-byte-requires-2 (digit.Asked, digit.Learnt, put_byte.Asked, put_byte.Learnt, below t, put_decimal.Post) (at t) put_decimal.Post
-put-byte-requires-2 t c = λ _. omega (arith, c .before .before .before .before .before .before .before .before .before .pre .1, pos-of-ne-zero (c .before .before .before .before .before .before .before .if1 .left), c .before .before .before .before .put-decimal .ensures .1, c .before .before .before .before .put-decimal .ensures .0 .size)
+put-byte-requires-2 t c =
+    let front = c .before .before .before .before in
+    let start = front .before .before .before .before .before in
+    λ _. omega (arith, start .pre .1, pos-of-ne-zero (front .before .before .before .if1 .left), front .put-decimal .ensures .1, front .put-decimal .ensures .0 .size)
 
 same-length-2 : (t : ℕ) → lts.Need-same-length-2 (digit.Asked, digit.Learnt, put_byte.Asked, put_byte.Learnt, below t, put_decimal.Post) (at t) put_decimal.Post
 same-length-2 t c = c .before .before .put-byte2 .ensures .size ∙ c .before .before .before .before .before .before .before .put-decimal .ensures .0 .size
 
 returns-3 : (t : ℕ) → lts.Need-returns-3 (digit.Asked, digit.Learnt, put_byte.Asked, put_byte.Learnt, below t, put_decimal.Post) (at t) put_decimal.Post
-returns-3 t c = (put-as (decimal-more _ _ (pos-of-ne-zero (c .before .before .before .before .before .before .before .before .before .before .if1 .left)) (c .before .before .before .before .before .before .before .before .before .if2 .left)) (put-more (c .before .before .before .before .before .before .before .put-decimal .ensures .0) (put-as (ap (λ (x : ℕ). x ∷ []) (c .before .before .before .before .digit2 .ensures)) (c .before .before .put-byte2 .ensures))), omega (arith, pos-of-ne-zero (c .before .before .before .before .before .before .before .before .before .before .if1 .left), c .before .before .before .before .before .before .before .put-decimal .ensures .1, c .before .before .put-byte2 .ensures .place))
+returns-3 t c =
+    let last = c .before .before in
+    let front = last .before .before .before .before .before in
+    let more = front .before .before in
+    let some = pos-of-ne-zero (more .before .if1 .left) in
+    (put-as (decimal-more _ _ some (more .if2 .left)) (put-more (front .put-decimal .ensures .0) (put-byte-as (last .before .before .digit2 .ensures) (last .put-byte2 .ensures))), omega (arith, some, front .put-decimal .ensures .1, last .put-byte2 .ensures .place))
 
 pub +put-decimal-spec : {M : Type 1} → statement M
-+put-decimal-spec = close μ (λ t. lts.spec (digit.Asked, digit.Learnt, put_byte.Asked, put_byte.Learnt, below t, put_decimal.Post) (at t) put_decimal.Post (returns t) (digit-requires t) (put-byte-requires t) (same-length t) (returns-2 t) (sub-put-decimal t) (put-decimal-requires t) (digit-requires-2 t) (put-byte-requires-2 t) (same-length-2 t) (returns-3 t))
++put-decimal-spec =
+    close μ
+    (λ t. lts.spec (digit.Asked, digit.Learnt, put_byte.Asked, put_byte.Learnt, below t, put_decimal.Post) (at t) put_decimal.Post
+    (returns t)
+    (digit-requires t)
+    (put-byte-requires t)
+    (same-length t)
+    (returns-2 t)
+    (sub-put-decimal t)
+    (put-decimal-requires t)
+    (digit-requires-2 t)
+    (put-byte-requires-2 t)
+    (same-length-2 t)
+    (returns-3 t))

@@ -33,7 +33,21 @@ same-length : tie.Need-same-length
 same-length c = search needs
 
 returns : tie.Need-returns
-returns c = put-more (c .before .before .before .before .before .before .before .before .before .before .before .before .before .before .before .before .before .before .before .before .before .before .before .before .before .before .before .before .before .before .put-byte .ensures) (put-more (c .before .before .before .before .before .before .before .before .before .before .before .before .before .before .before .before .before .before .before .before .before .before .before .before .before .before .put-byte2 .ensures) (put-more (c .before .before .before .before .before .before .before .before .before .before .before .before .before .before .before .before .before .before .before .before .before .before .put-decimal .ensures .0) (put-more (c .before .before .before .before .before .before .before .before .before .before .before .before .before .before .before .before .before .before .put-byte3 .ensures) (put-more (c .before .before .before .before .before .before .before .before .before .before .before .before .before .before .put-decimal2 .ensures .0) (put-more (c .before .before .before .before .before .before .before .before .before .before .put-byte4 .ensures) (put-more (c .before .before .before .before .before .before .put-decimal3 .ensures .0) (c .before .before .put-byte5 .ensures)))))))
+returns c =
+    let eighth = c .before .before in
+    let seventh = eighth .before .before .before .before in
+    let sixth = seventh .before .before .before .before in
+    let fifth = sixth .before .before .before .before in
+    let fourth = fifth .before .before .before .before in
+    let third = fourth .before .before .before .before in
+    let second = third .before .before .before .before in
+    let first = second .before .before .before .before in
+    put-more (first .put-byte .ensures)
+    (put-more (second .put-byte2 .ensures)
+    (put-more (third .put-decimal .ensures .0)
+    (put-more (fourth .put-byte3 .ensures)
+    (put-more (fifth .put-decimal2 .ensures .0)
+    (put-more (sixth .put-byte4 .ensures) (put-more (seventh .put-decimal3 .ensures .0) (eighth .put-byte5 .ensures)))))))
 
 pub counts-line-spec : {M : Type 1} → statement M
 counts-line-spec =

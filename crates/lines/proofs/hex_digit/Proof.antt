@@ -1,3 +1,5 @@
+-- By the number, as the definition has it: a digit, or a letter.
+-- Assumes nothing.
 use Rattle.rules.specs.Choice.{pick}
 use Rattle.lines.specs.Lines.{hexDigit}
 use borrow.Author.Tests.{lt-ltb, le-ltb}

@@ -26,7 +26,14 @@ same-length : tie.Need-same-length
 same-length c = search needs
 
 returns : tie.Need-returns
-returns c = put-more (c .before .before .before .before .before .before .before .before .before .before .before .before .before .before .before .put-byte .ensures) (put-more (c .before .before .before .before .before .before .before .before .before .before .before .put-byte2 .ensures) (put-more (put-as (ap (decimalTo 20) (c .before .before .before .before .before .before .before .before .wide .ensures)) (c .before .before .before .before .before .before .put-decimal .ensures .0)) (c .before .before .put-byte3 .ensures)))
+returns c =
+    let third = c .before .before .before .before .before .before in
+    let wide = third .before .before in
+    let second = wide .before .before .before in
+    let first = second .before .before .before .before in
+    put-more (first .put-byte .ensures)
+    (put-more (second .put-byte2 .ensures)
+    (put-more (put-as (ap (decimalTo 20) (wide .wide .ensures)) (third .put-decimal .ensures .0)) (c .before .before .put-byte3 .ensures)))
 
 pub put-number-line-spec : {M : Type 1} → statement M
 put-number-line-spec =

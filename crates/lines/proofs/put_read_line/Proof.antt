@@ -1,11 +1,8 @@
 -- By the number: the seven bytes of an accepted read, or the line of a refusal. Runs put one behind the other are put.
 -- Assumes nothing.
-use Rattle.lines.proofs.Lines.{put-more, put-as}
+use Rattle.lines.proofs.Lines.{put-more, put-as, put-byte-as}
 use Rattle.lines.specs.Lines.{readLine}
 use Rattle.rules.specs.Choice.{pick}
-use mathlib.Core.Path.{ap}
-use mathlib.Core.List.{[], _∷_}
-use Prim.Native.Nat.{ℕ}
 use borrow.Author.Tests.{eq-eqb, ne-eqb}
 use borrow.Author.Needs.{needs}
 use Rattle.lines.proofs.put_read_line.Statement.{statement}
@@ -43,7 +40,23 @@ same-length c = search needs
 
 returns : tie.Need-returns
 unfolding readLine pick
-returns c = put-as (simp (eq-eqb _ _ (c .before .before .before .before .before .before .before .before .before .before .before .before .before .before .before .before .before .before .before .before .before .before .before .before .before .before .before .before .before .before .if1 .taken))) (put-more (c .before .before .before .before .before .before .before .before .before .before .before .before .before .before .before .before .before .before .before .before .before .before .before .before .before .before .put-byte .ensures) (put-more (c .before .before .before .before .before .before .before .before .before .before .before .before .before .before .before .before .before .before .before .before .before .before .put-byte2 .ensures) (put-more (c .before .before .before .before .before .before .before .before .before .before .before .before .before .before .before .before .before .before .put-byte3 .ensures) (put-more (c .before .before .before .before .before .before .before .before .before .before .before .before .before .before .put-byte4 .ensures) (put-more (put-as (ap (λ (x : ℕ). x ∷ []) (c .before .before .before .before .before .before .before .before .before .before .before .before .before .before .before .before .before .before .before .before .before .before .before .before .before .before .before .before .before .hex-digit .ensures)) (c .before .before .before .before .before .before .before .before .before .before .put-byte5 .ensures)) (put-more (put-as (ap (λ (x : ℕ). x ∷ []) (c .before .before .before .before .before .before .before .before .before .before .before .before .before .before .before .before .before .before .before .before .before .before .before .before .before .before .before .before .hex-digit2 .ensures)) (c .before .before .before .before .before .before .put-byte6 .ensures)) (c .before .before .put-byte7 .ensures)))))))
+returns c =
+    let seventh = c .before .before in
+    let sixth = seventh .before .before .before .before in
+    let fifth = sixth .before .before .before .before in
+    let fourth = fifth .before .before .before .before in
+    let third = fourth .before .before .before .before in
+    let second = third .before .before .before .before in
+    let first = second .before .before .before .before in
+    let low = first .before .before in
+    let high = low .before in
+    put-as (simp (eq-eqb _ _ (high .before .if1 .taken)))
+    (put-more (first .put-byte .ensures)
+    (put-more (second .put-byte2 .ensures)
+    (put-more (third .put-byte3 .ensures)
+    (put-more (fourth .put-byte4 .ensures)
+    (put-more (put-byte-as (high .hex-digit .ensures) (fifth .put-byte5 .ensures))
+    (put-more (put-byte-as (low .hex-digit2 .ensures) (sixth .put-byte6 .ensures)) (seventh .put-byte7 .ensures)))))))
 
 put-number-line-requires : tie.Need-put-number-line-requires
 put-number-line-requires c κs = search needs

@@ -1,3 +1,5 @@
+-- By whether the input has ended: the end, or more bytes are needed.
+-- Assumes nothing.
 use Rattle.rules.specs.Choice.{pick}
 use Rattle.records.specs.Records.{behind}
 use borrow.Author.Needs.{needs}

@@ -1,3 +1,5 @@
+-- By the length, as the definition has it; a record as long as a grant has its four bytes of clocks.
+-- Assumes nothing.
 use Rattle.rules.specs.Choice.{pick}
 use Rattle.records.specs.Records.{grantRecord}
 use borrow.Author.Tests.{eq-eqb, ne-eqb}

@@ -1,3 +1,5 @@
+-- By what is at hand, as the definition has it; once both bytes of the length are there, they can be read.
+-- Assumes nothing.
 use Rattle.rules.specs.Choice.{pick}
 use Rattle.records.specs.Records.{longLength}
 use borrow.Author.Tests.{lt-ltb, lt-leb, le-leb, le-ltb}

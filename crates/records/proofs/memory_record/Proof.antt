@@ -1,3 +1,5 @@
+-- By the length, as the definition has it; what is not too short has the two bytes of its address.
+-- Assumes nothing.
 use Rattle.rules.specs.Choice.{pick}
 use Rattle.records.specs.Records.{memoryRecord}
 use borrow.Author.Tests.{lt-ltb, le-ltb}

@@ -1,3 +1,5 @@
+-- By the kind, as the definition has it: the tests are the same, and each kind has its function.
+-- Assumes nothing.
 use Rattle.rules.specs.Choice.{pick}
 use Rattle.records.specs.Records.{ofKind}
 use borrow.Author.Tests.{eq-eqb, ne-eqb}

@@ -1,5 +1,6 @@
-use Rattle.rules.specs.Choice.{pick}
-use Rattle.records.specs.Records.{quad}
+-- Two words, the high one first, each as its two bytes have it.
+-- Assumes nothing.
+use Rattle.records.proofs.BigEndian.{quad-words}
 use borrow.Author.Needs.{needs}
 use Rattle.records.proofs.quad_at.Statement.{statement}
 use Rattle.records.proofs.quad_at.Tie as tie
@@ -26,8 +27,7 @@ add-result : tie.Need-add-result
 add-result c = search needs
 
 returns : tie.Need-returns
-unfolding quad pick
-returns c = simp (c .before .before .before .word-at .ensures, c .before .before .widest .ensures .0, c .before .word-at2 .ensures, c .widest2 .ensures .0)
+returns c = simp (c .before .before .before .word-at .ensures, c .before .before .widest .ensures .0, c .before .word-at2 .ensures, c .widest2 .ensures .0) (quad-words _ _)
 
 pub quad-at-spec : {M : Type 1} → statement M
 quad-at-spec =

@@ -1,3 +1,5 @@
+-- By the length, as the definition has it; a record as long as a port read has the two bytes of its port.
+-- Assumes nothing.
 use Rattle.rules.specs.Choice.{pick}
 use Rattle.records.specs.Records.{readRecord}
 use borrow.Author.Tests.{eq-eqb, ne-eqb}

@@ -1,3 +1,5 @@
+-- By what is at hand, as the definition has it: the length is read where both of its bytes are, the kind where all bytes are.
+-- Assumes nothing.
 use Rattle.rules.specs.Choice.{pick}
 use Rattle.records.specs.Records.{recordAt}
 use borrow.Author.Tests.{lt-ltb, lt-leb, le-leb, le-ltb, eq-eqb, ne-eqb}
@@ -39,14 +41,20 @@ cut-short-requires-2 c κs = search needs
 
 returns-3 : tie.Need-returns-3
 unfolding recordAt pick
-returns-3 c = simp (lt-leb _ _ (c .before .before .before .before .before .if1 .left), lt-leb _ _ (c .before .before .before .before .if2 .left), lt-ltb _ _ (c .before .if3 .taken), ← c .before .before .before .word-at .ensures, ← c .before .before .index .ensures .0, c .cut-short2 .ensures)
+returns-3 c =
+    let third = c .before in
+    let second = third .before .before .before in
+    simp (lt-leb _ _ (second .before .if1 .left), lt-leb _ _ (second .if2 .left), lt-ltb _ _ (third .if3 .taken), ← third .before .before .word-at .ensures, ← third .before .index .ensures .0, c .cut-short2 .ensures)
 
 no-record-requires : tie.Need-no-record-requires
 no-record-requires c κs = search needs
 
 returns-4 : tie.Need-returns-4
 unfolding recordAt pick
-returns-4 c = simp (lt-leb _ _ (c .before .before .before .before .before .before .if1 .left), lt-leb _ _ (c .before .before .before .before .before .if2 .left), le-ltb _ _ (c .before .before .if3 .left), eq-eqb _ _ (c .before .if4 .taken), ← c .before .before .before .before .word-at .ensures, ← c .before .before .before .index .ensures .0, c .no-record .ensures)
+returns-4 c =
+    let third = c .before .before in
+    let second = third .before .before .before in
+    simp (lt-leb _ _ (second .before .if1 .left), lt-leb _ _ (second .if2 .left), le-ltb _ _ (third .if3 .left), eq-eqb _ _ (c .before .if4 .taken), ← third .before .before .word-at .ensures, ← third .before .index .ensures .0, c .no-record .ensures)
 
 add-kind : tie.Need-add-kind
 add-kind c = search needs
@@ -59,7 +67,10 @@ of-kind-requires c κs = search needs
 
 returns-5 : tie.Need-returns-5
 unfolding recordAt pick
-returns-5 c = simp (lt-leb _ _ (c .before .before .before .before .before .before .before .if1 .left), lt-leb _ _ (c .before .before .before .before .before .before .if2 .left), le-ltb _ _ (c .before .before .before .if3 .left), ne-eqb _ _ (c .before .before .if4 .left), ← c .before .before .before .before .before .word-at .ensures, ← c .before .before .before .before .index .ensures .0, c .of-kind .ensures)
+returns-5 c =
+    let third = c .before .before .before in
+    let second = third .before .before .before in
+    simp (lt-leb _ _ (second .before .if1 .left), lt-leb _ _ (second .if2 .left), le-ltb _ _ (third .if3 .left), ne-eqb _ _ (c .before .before .if4 .left), ← third .before .before .word-at .ensures, ← third .before .index .ensures .0, c .of-kind .ensures)
 
 pub record-at-spec : {M : Type 1} → statement M
 record-at-spec =

@@ -1,5 +1,6 @@
-use Rattle.rules.specs.Choice.{pick}
-use Rattle.records.specs.Records.{word}
+-- Two bytes, the high one first; their number fits sixteen bits.
+-- Assumes nothing.
+use Rattle.records.proofs.BigEndian.{word-bytes}
 use borrow.Author.Needs.{needs}
 use Rattle.records.proofs.word_at.Statement.{statement}
 use Rattle.records.proofs.word_at.Tie as tie
@@ -26,8 +27,7 @@ add-result : tie.Need-add-result
 add-result c = search needs
 
 returns : tie.Need-returns
-unfolding word pick
-returns c = simp (c .before .before .wide .ensures .0, c .wide2 .ensures .0)
+returns c = simp (c .before .before .wide .ensures .0, c .wide2 .ensures .0) (word-bytes _ _)
 
 pub word-at-spec : {M : Type 1} → statement M
 word-at-spec =

@@ -1,3 +1,5 @@
+-- By the length, as the definition has it; a record as long as a port write has its port and its byte.
+-- Assumes nothing.
 use Rattle.rules.specs.Choice.{pick}
 use Rattle.records.specs.Records.{writeRecord}
 use borrow.Author.Tests.{eq-eqb, ne-eqb}

@@ -1,3 +1,5 @@
+-- By what stands at the place, as the definition has it: the tests are the same, and each case has its function.
+-- Assumes nothing.
 use Rattle.rules.specs.Choice.{pick}
 use Rattle.session.specs.Steps.{byRecord}
 use borrow.Author.Tests.{lt-leb, le-leb, eq-eqb, ne-eqb}
@@ -46,7 +48,10 @@ same-length-5 c = search needs
 
 returns-4 : tie.Need-returns-4
 unfolding byRecord pick
-returns-4 c = simp (ne-eqb _ _ (c .before .before .before .before .before .before .before .before .before .before .before .before .before .before .if1 .left), ne-eqb _ _ (c .before .before .before .before .before .before .before .before .before .before .before .before .if2 .left), lt-leb _ _ (c .before .before .before .before .before .before .before .before .before .before .if3 .left), c .before .before .before .before .before .before .carry .ensures)
+returns-4 c =
+    let done = c .before .before .before .before .before .before in
+    let third = done .before .before .before .before in
+    simp (ne-eqb _ _ (third .before .before .before .before .if1 .left), ne-eqb _ _ (third .before .before .if2 .left), lt-leb _ _ (third .if3 .left), done .carry .ensures)
 
 pub by-record-spec : {M : Type 1} → statement M
 by-record-spec =

@@ -1,3 +1,5 @@
+-- By the bytes at hand and whether more come, as the definition has it; where not all are there, the difference is left.
+-- Assumes nothing.
 use Rattle.rules.specs.Choice.{pick}
 use Rattle.session.specs.Steps.{longStep}
 use borrow.Author.Tests.{lt-leb, le-leb}

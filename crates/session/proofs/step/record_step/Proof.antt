@@ -30,13 +30,19 @@ same-length-3 c = search needs
 
 returns : tie.Need-returns
 unfolding recordStep pick
-returns c = simp (eq-eqb _ _ (c .before .before .before .before .before .before .before .before .before .before .before .if1 .taken), ← c .before .before .before .before .before .before .before .before .before .before .before .before .long-length .ensures, c .before .before .before .before .before .before .before .before .before .before .record-at .ensures, c .before .before .before .before .before .before .by-record .ensures) (search needs)
+returns c =
+    let done = c .before .before .before .before .before .before in
+    let found = done .before .before .before .before in
+    simp (eq-eqb _ _ (found .before .if1 .taken), ← found .before .before .long-length .ensures, found .record-at .ensures, done .by-record .ensures) (search needs)
 
 in-phase-requires : tie.Need-in-phase-requires
 in-phase-requires c κs = search needs
 
 add-say-nothing : tie.Need-add-say-nothing
-add-say-nothing c = omega (arith, long-there (c .before .before .before .before .before .before .before .before .args .input .now) (c .before .before .before .before .before .before .before .before .args .place) (λ e. c .before .before .if1 .left (c .before .before .before .long-length .ensures ∙ e)))
+add-say-nothing c =
+    let long = c .before .before .before in
+    let start = long .before .before .before .before .before in
+    omega (arith, long-there (start .args .input .now) (start .args .place) (λ e. c .before .before .if1 .left (long .long-length .ensures ∙ e)))
 
 say-nothing-requires : tie.Need-say-nothing-requires
 say-nothing-requires c κs = search needs

@@ -1,3 +1,5 @@
+-- By the bytes at hand and the version byte, as the definition has it.
+-- Assumes nothing.
 use Rattle.rules.specs.Choice.{pick}
 use Rattle.session.specs.Steps.{versionStep}
 use borrow.Author.Tests.{lt-leb, le-leb, eq-eqb, ne-eqb}

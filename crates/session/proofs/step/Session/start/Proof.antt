@@ -1,3 +1,5 @@
+-- The device is the one of power-on.
+-- Assumes nothing.
 use Rattle.rules.specs.Choice.{pick}
 use borrow.Author.Needs.{needs}
 use Rattle.session.proofs.step.Session.start.Statement.{statement}
