@@ -1,5 +1,5 @@
-pub mod Room
-pub mod Moving
-pub mod Lengths
-pub mod Spanning
-pub mod Carrying
+pub mod Counts
+pub mod Buffers
+pub mod Spans
+pub mod Stretches
+pub mod WholeSlots

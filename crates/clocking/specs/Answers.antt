@@ -4,21 +4,21 @@ use Prim.Native.Nat.{ℕ, _+_, _*_, _-_, _<_}
 use mathlib.Core.Path.{_≡_}
 use mathlib.Core.Bool.{true, false}
 use mathlib.Core.List.{List}
-use lib.Dec.{eqb, leb, ltb}
+use lib.Dec.{leb, ltb}
 use Rattle.rules.specs.Choice.{pick}
+use Rattle.rules.specs.Ports.{advancedBy}
 use Rattle.rules.specs.Blocks.{finished}
 use Rattle.rules.specs.Validity.{most64}
-use Rattle.rules.specs.Clock.{Clock}
-use Rattle.rules.specs.Buffers.{Buffers, flat, source, destination}
+use Rattle.rules.specs.Clock.{Kind, busClock, withCount, Clock, waitKind}
+use Rattle.rules.specs.Buffers.{Buffers, flat}
 use Rattle.rules.specs.Spans.{kindCode}
 use Rattle.rules.specs.Stretches.{slotOf, quiet, elapsedBy}
-use Rattle.rules.specs.WholeSlots.{advancedBy, waitKind, transferred}
+use Rattle.rules.specs.WholeSlots.{transferred}
 use Rattle.rules.specs.declared.Port.{Port}
 use Rattle.rules.specs.declared.Slot.{Slot}
 use Rattle.rules.specs.declared.Clocks.{Clocks}
 use Rattle.rules.specs.declared.Core.{Core}
 use Rattle.clocking.specs.declared.clock.Tick.{Tick}
-use Rattle.clocking.specs.declared.clock.Span.{Span}
 use Rattle.clocking.specs.declared.stretch.Wait.{Wait}
 
 -- a clock without what the counter held
@@ -41,10 +41,6 @@ pub record MayRun (c : Core) (budget : ℕ) : Type 0 where
   pub elapsed : c .slot .elapsed < 65535
   pub some : 0 < budget
 
--- a span of the processor's clocks, which move nothing
-abbrev pub cpuSpan : ℕ → Core → Core → Span
-cpuSpan n c next = record { kind = 2; clocks = n; moves = false; from = source c; to = destination c; next = next }
-
 -- n clocks of the slot that runs or begins, if they end before its present stretch does
 unfoldable pub waitAnswer : ℕ → Core → Wait
 waitAnswer n c =
@@ -56,17 +52,14 @@ waitAnswer n c =
 unfoldable pub added : ℕ → ℕ → ℕ
 added count n = pick (leb count (most64 - n)) (count + n) count
 
--- n clocks of one kind counted, as far as its count has room
-unfoldable pub countedWithin : ℕ → ℕ → Clocks → Clocks
-countedWithin kind n k =
-    pick (eqb kind 0) (record { bus = added (k .bus) n; held = k .held; cpu = k .cpu })
-    (pick (eqb kind 1) (record { bus = k .bus; held = added (k .held) n; cpu = k .cpu })
-    (record { bus = k .bus; held = k .held; cpu = added (k .cpu) n }))
+-- n clocks of a kind counted, as far as its count has room
+unfoldable pub countedWithin : Kind → ℕ → Clocks → Clocks
+countedWithin kind n k = withCount kind (λ count. added count n) k
 
 -- the clocks of k slots counted, as far as the counts have room
 abbrev pub slotsCountedWithin : ℕ → Slot → Clocks → Clocks
 slotsCountedWithin k s x =
-    countedWithin (waitKind (s .burst)) (k * (s .length - s .bus)) (countedWithin 0 (k * s .bus) x)
+    countedWithin (waitKind (s .burst)) (k * (s .length - s .bus)) (countedWithin busClock (k * s .bus) x)
 
 -- k bytes have moved: the buffers and the ports after them
 pub record BytesMoved (c : Core) (k : ℕ) (before after : Buffers (List ℕ)) (portA portB : Port) : Type 0 where

@@ -1,15 +1,9 @@
 // Counting clocks.
 ghost use mathlib.Core.Path.{_≡_};
+ghost use Rattle.rules.specs.Spans.{kindOf};
 ghost use Rattle.clocking.specs.Answers.{added, countedWithin};
-use crate::clock;
 use parts::valid;
 use rules::Clocks;
-
-fn wide(x: u32) -> u64
-    ensures { λ r. ⌜ r ≡ x ⌝ }
-{
-    x as u64
-}
 
 // A count with `n` more; where they would not fit it stays.
 fn more(count: u64, n: u64) -> u64
@@ -23,23 +17,22 @@ fn more(count: u64, n: u64) -> u64
 
 // `n` clocks of one kind added to its count, which stays where they would not fit.
 pub fn add(kind: u8, n: u32, k: Clocks) -> Clocks
-    ensures { λ r. ⌜ r ≡ countedWithin kind n k ⌝ }
+    ensures { λ r. ⌜ r ≡ countedWithin (kindOf kind) n k ⌝ }
 {
-    let clocks = wide(n);
-    add_all(kind, clocks, k)
+    add_all(kind, n as u64, k)
 }
 
 // The same for a larger number.
 pub(crate) fn add_all(kind: u8, clocks: u64, k: Clocks) -> Clocks
-    ensures { λ r. ⌜ r ≡ countedWithin kind clocks k ⌝ }
+    ensures { λ r. ⌜ r ≡ countedWithin (kindOf kind) clocks k ⌝ }
 {
-    if kind == clock::BUS {
+    if kind == rules::BUS {
         let bus = more(k.bus, clocks);
         let mut next = k;
         next.bus = bus;
         return next;
     }
-    if kind == clock::HELD {
+    if kind == rules::HELD {
         let held = more(k.held, clocks);
         let mut next = k;
         next.held = held;

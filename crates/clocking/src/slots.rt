@@ -1,14 +1,17 @@
 // Whole slots at once.
 ghost use mathlib.Core.Path.{_≡_};
-ghost use Prim.Native.Nat.{_+_, _*_, _-_, _%_};
-ghost use Rattle.rules.specs.Parts.{withPointer};
-ghost use Rattle.rules.specs.WholeSlots.{atSlotStart, slotsWithin, stride, waitKind};
+ghost use Prim.Native.Nat.{_*_, _-_};
+ghost use Rattle.rules.specs.Clock.{waitKind};
+ghost use Rattle.rules.specs.Spans.{kindCode};
+ghost use Rattle.rules.specs.WholeSlots.{atSlotStart, slotsWithin};
 ghost use Rattle.clocking.specs.Answers.{borrowed, slotsCountedWithin, BytesMoved};
-use crate::clock;
 use crate::count;
+use crate::place;
 use crate::stretch;
 use crate::transfer;
 use parts::block;
+use parts::port;
+use parts::slot;
 use rules::Clocks;
 use rules::Core;
 use rules::Port;
@@ -20,7 +23,7 @@ fn at_slot_start(c: Core) -> bool
 {
     let b = c.block;
     let ended = block::is_finished(b);
-    let slot = clock::new_slot(c);
+    let slot = slot::new_slot(c);
     c.enabled & ((c.slot.elapsed == 0) & (!ended & (0 < slot.length)))
 }
 
@@ -29,8 +32,8 @@ pub fn slots_within(c: Core, budget: u32) -> u32
     ensures { λ r. ⌜ r ≡ slotsWithin c budget ⌝ }
 {
     if at_slot_start(c) {
-        let slot = clock::new_slot(c);
-        let length = stretch::wide(slot.length);
+        let slot = slot::new_slot(c);
+        let length = slot.length as u32;
         let b = c.block;
         let count = block::block_count(b);
         let fitting = budget / length;
@@ -46,44 +49,21 @@ pub struct Ports {
     pub b: Port,
 }
 
-// What a step code adds to an address modulo 65,536.
-fn stride(step: u8) -> u16
-    ensures { λ r. ⌜ r ≡ stride step ⌝ }
-{
-    if step == 0 {
-        return std::num::wrapping_sub_u16(0, 1);
-    }
-    if step == 1 {
-        return 1;
-    }
-    0
-}
-
-// The port with its pointer further by a stride.
-fn go_on(p: Port, by: u16) -> Port
-    ensures { λ r. ⌜ r ≡ withPointer ((p .pointer + by) % 65536) p ⌝ }
-{
-    let pointer = std::num::wrapping_add_u16(p.pointer, by);
-    let mut next = p;
-    next.pointer = pointer;
-    next
-}
-
 // Bytes are moved, `k` of them one after the other; the ports after them.
 pub fn move_bytes(c: Core, memory: &mut [u8], latches: &mut [u8], k: u32) -> Ports
     ensures { λ r. ⌜ BytesMoved c k (borrowed (now (memory .entry)) (now (latches .entry))) (borrowed (now (memory .exit)) (now (latches .exit))) (r .a) (r .b) ⌝ }
 {
     let mut a = c.a;
     let mut b = c.b;
-    let a_stride = stride(c.a.step);
-    let b_stride = stride(c.b.step);
+    let a_stride = port::stride(c.a.step);
+    let b_stride = port::stride(c.b.step);
     let mut i: u32 = 0;
     while i < k {
-        let from = clock::place_in(c.control.forward, a, b);
-        let to = clock::place_in(c.control.forward, b, a);
+        let from = place::place_in(c.control.forward, a, b);
+        let to = place::place_in(c.control.forward, b, a);
         transfer::move_byte(memory, latches, from, to);
-        a = go_on(a, a_stride);
-        b = go_on(b, b_stride);
+        a = port::go_on(a, a_stride);
+        b = port::go_on(b, b_stride);
         i += 1;
     }
     Ports { a, b }
@@ -91,12 +71,12 @@ pub fn move_bytes(c: Core, memory: &mut [u8], latches: &mut [u8], k: u32) -> Por
 
 // The kind of a slot's waiting clocks.
 fn wait_kind(burst: bool) -> u8
-    ensures { λ r. ⌜ r ≡ waitKind burst ⌝ }
+    ensures { λ r. ⌜ r ≡ kindCode (waitKind burst) ⌝ }
 {
     if burst {
-        return clock::CPU;
+        return rules::CPU;
     }
-    clock::HELD
+    rules::HELD
 }
 
 // A product of a number of slots and a slot's clocks.
@@ -133,6 +113,6 @@ pub fn count_slots(k: u32, s: Slot, x: Clocks) -> Clocks
     let each = wait_of(s);
     let wait = times(k, each);
     let kind = wait_kind(s.burst);
-    let counted = count::add_all(clock::BUS, bus, x);
+    let counted = count::add_all(rules::BUS, bus, x);
     count::add_all(kind, wait, counted)
 }

@@ -3,15 +3,9 @@ ghost use mathlib.Core.Path.{_≡_};
 ghost use Prim.Native.Nat.{_+_, _<_};
 ghost use Rattle.rules.specs.Stretches.{least, slotOf, slotRest, stretchRest, elapsedBy};
 ghost use Rattle.clocking.specs.Answers.{waitAnswer};
-use crate::clock;
+use parts::slot;
 use rules::Core;
 use rules::Slot;
-
-pub(crate) fn wide(x: u16) -> u32
-    ensures { λ r. ⌜ r ≡ x ⌝ }
-{
-    x as u32
-}
 
 // The smaller of two numbers.
 pub(crate) fn least(x: u32, y: u32) -> u32
@@ -28,7 +22,7 @@ pub(crate) fn slot_of(c: Core) -> Slot
     ensures { λ r. ⌜ r ≡ slotOf c ⌝ }
 {
     if c.slot.elapsed == 0 {
-        return clock::new_slot(c);
+        return slot::new_slot(c);
     }
     c.slot
 }
@@ -39,7 +33,7 @@ fn slot_rest(s: Slot) -> u32
 {
     if s.elapsed < s.length {
         let rest = s.length - s.elapsed;
-        return wide(rest);
+        return rest as u32;
     }
     1
 }
@@ -51,7 +45,7 @@ pub(crate) fn stretch_rest(s: Slot) -> u32
     let rest = slot_rest(s);
     if s.elapsed < s.bus {
         let bus = s.bus - s.elapsed;
-        let moving = wide(bus);
+        let moving = bus as u32;
         return least(moving, rest);
     }
     rest

@@ -4,7 +4,6 @@ ghost use Rattle.rules.specs.Validity.{valid, total};
 ghost use Rattle.rules.specs.Buffers.{flat};
 ghost use Rattle.rules.specs.Calls.{writeReply, readReply, grant};
 ghost use Rattle.zxndma.specs.Answers.{deviceAtPowerOn, writeAnswer, readAnswer, systemOf, grantAnswer};
-use parts::refusal;
 use zxndma::Device;
 use zxndma::GrantAnswer;
 use zxndma::ReadAnswer;
@@ -52,7 +51,5 @@ pub extern "C" fn zxndma_grant(
 pub extern "C" fn zxndma_valid(device: Device) -> bool
     ensures { λ r. ⌜ r ≡ valid (device .core) (total (device .clocks)) ⌝ }
 {
-    let core = device.core;
-    let clocks = device.clocks;
-    refusal::is_valid(core, clocks)
+    device.is_valid()
 }

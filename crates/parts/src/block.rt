@@ -3,17 +3,11 @@ ghost use mathlib.Core.Path.{_≡_};
 ghost use Rattle.rules.specs.Blocks.{blockCount, finished};
 use rules::Block;
 
-fn wide(x: u16) -> u32
-    ensures { λ r. ⌜ r ≡ x ⌝ }
-{
-    x as u32
-}
-
 // The bytes of a block.
 pub fn block_count(b: Block) -> u32
     ensures { λ r. ⌜ r ≡ blockCount b ⌝ }
 {
-    let length = wide(b.length);
+    let length = b.length as u32;
     if b.zilog {
         return length + 1;
     }

@@ -1,8 +1,8 @@
-// A core with one part replaced, and the parts that stand for nothing.
+// A core with one part replaced.
 ghost use mathlib.Core.Path.{_≡_};
 ghost use Rattle.rules.specs.Parts.{withA, withB, withStatus, withReadback, withPending, withSlot};
-ghost use Rattle.rules.specs.Slots.{noSlot};
 ghost use Rattle.rules.specs.Commands.{disable};
+use crate::slot;
 use rules::Core;
 use rules::Pending;
 use rules::Port;
@@ -55,18 +55,6 @@ pub fn with_pending(p: Pending, c: Core) -> Core
     next
 }
 
-// A slot of which no clock has elapsed.
-pub fn no_slot() -> Slot
-    ensures { λ r. ⌜ r ≡ noSlot ⌝ }
-{
-    Slot {
-        elapsed: 0,
-        bus: 0,
-        length: 0,
-        burst: false,
-    }
-}
-
 // With another slot.
 pub fn with_slot(s: Slot, c: Core) -> Core
     ensures { λ r. ⌜ r ≡ withSlot s c ⌝ }
@@ -80,7 +68,7 @@ pub fn with_slot(s: Slot, c: Core) -> Core
 pub fn disabled(c: Core) -> Core
     ensures { λ r. ⌜ r ≡ disable c ⌝ }
 {
-    let none = no_slot();
+    let none = slot::no_slot();
     let mut next = c;
     next.enabled = false;
     next.slot = none;

@@ -1,7 +1,9 @@
 // What is done to a port, once for A and B.
 ghost use mathlib.Core.Path.{_≡_};
+ghost use Prim.Native.Nat.{_+_, _%_};
 ghost use Rattle.rules.specs.Bytes.{withLow, withHigh};
-ghost use Rattle.rules.specs.Ports.{configured, cycleOf, timed, addressedLow, addressedHigh, resetTiming, loaded};
+ghost use Rattle.rules.specs.Parts.{withPointer};
+ghost use Rattle.rules.specs.Ports.{configured, cycleOf, timed, addressedLow, addressedHigh, resetTiming, loaded, stepped, advanced, stride};
 use rules::Port;
 
 // The number with its low byte replaced.
@@ -92,5 +94,51 @@ pub fn load(p: Port) -> Port
     let address = p.address;
     let mut next = p;
     next.pointer = address;
+    next
+}
+
+// The address after a byte: one less, one more or the same, modulo 65,536.
+fn step_pointer(step: u8, pointer: u16) -> u16
+    ensures { λ r. ⌜ r ≡ stepped step pointer ⌝ }
+{
+    if step == 0 {
+        return std::num::wrapping_sub_u16(pointer, 1);
+    }
+    if step == 1 {
+        return std::num::wrapping_add_u16(pointer, 1);
+    }
+    pointer
+}
+
+// The port with its pointer stepped.
+pub fn advance(p: Port) -> Port
+    ensures { λ r. ⌜ r ≡ advanced p ⌝ }
+{
+    let pointer = step_pointer(p.step, p.pointer);
+    let mut next = p;
+    next.pointer = pointer;
+    next
+}
+
+// What a step code adds to an address modulo 65,536.
+pub fn stride(step: u8) -> u16
+    ensures { λ r. ⌜ r ≡ stride step ⌝ }
+{
+    if step == 0 {
+        return std::num::wrapping_sub_u16(0, 1);
+    }
+    if step == 1 {
+        return 1;
+    }
+    0
+}
+
+// The port with its pointer further by a stride.
+pub fn go_on(p: Port, by: u16) -> Port
+    ensures { λ r. ⌜ r ≡ withPointer ((p .pointer + by) % 65536) p ⌝ }
+{
+    let pointer = std::num::wrapping_add_u16(p.pointer, by);
+    let mut next = p;
+    next.pointer = pointer;
     next
 }

@@ -1,21 +1,11 @@
 // Why a port write or a port read is refused.
 ghost use mathlib.Core.Path.{_≡_};
-ghost use Rattle.rules.specs.Validity.{valid, total};
+ghost use Rattle.rules.specs.Validity.{total};
 ghost use Rattle.rules.specs.Refusals.{wrongPort, accessRefusal};
 use crate::slot;
 use crate::valid;
 use rules::Clocks;
 use rules::Core;
-
-// The core is valid and the sum of the clock counts fits.
-pub fn is_valid(c: Core, k: Clocks) -> bool
-    ensures { λ r. ⌜ r ≡ valid c (total k) ⌝ }
-{
-    if !valid::valid_core(c) {
-        return false;
-    }
-    valid::fits(k)
-}
 
 // The port is not one of the device's.
 fn is_wrong_port(port: u16) -> bool
@@ -29,7 +19,7 @@ fn is_wrong_port(port: u16) -> bool
 pub fn access_number(c: Core, k: Clocks, port: u16) -> u8
     ensures { λ r. ⌜ r ≡ accessRefusal c (total k) port ⌝ }
 {
-    let valid = is_valid(c, k);
+    let valid = valid::is_valid(c, k);
     let wrong = is_wrong_port(port);
     let held = slot::holds_bus(c);
     if !valid {

@@ -1,8 +1,49 @@
-// Waiting in a transfer slot, and who has the bus.
+// The transfer slot: the one that begins, waiting in it, and who has the bus.
 ghost use mathlib.Core.Path.{_≡_};
-ghost use Rattle.rules.specs.Slots.{waiting, busHeld, unmoved};
+ghost use Rattle.rules.specs.Slots.{noSlot, waiting, busHeld, unmoved};
+ghost use Rattle.rules.specs.Clock.{slotLength, newSlot};
 use rules::Core;
 use rules::Slot;
+
+// A slot of which no clock has elapsed.
+pub fn no_slot() -> Slot
+    ensures { λ r. ⌜ r ≡ noSlot ⌝ }
+{
+    Slot {
+        elapsed: 0,
+        bus: 0,
+        length: 0,
+        burst: false,
+    }
+}
+
+// The length of a slot that begins.
+fn slot_length(prescaler: u8, bus: u16) -> u16
+    ensures { λ r. ⌜ r ≡ slotLength prescaler bus ⌝ }
+{
+    if prescaler == 0 {
+        return bus;
+    }
+    let units = prescaler as u16;
+    32 * units
+}
+
+// The slot that the registers start.
+pub fn new_slot(c: Core) -> Slot
+    ensures { λ r. ⌜ r ≡ newSlot c ⌝ }
+{
+    let a = c.a.cycle as u16;
+    let b = c.b.cycle as u16;
+    let bus = a + b;
+    let length = slot_length(c.control.prescaler, bus);
+    let burst = c.control.burst;
+    Slot {
+        elapsed: 0,
+        bus,
+        length,
+        burst,
+    }
+}
 
 // The device waits in a burst slot.
 fn is_waiting(s: Slot) -> bool

@@ -1,7 +1,7 @@
-// Validity of a core, part by part.
+// Validity of a core, part by part, and of a core with its clock counts.
 ghost use mathlib.Core.Path.{_≡_};
 ghost use lib.Dec.{leb};
-ghost use Rattle.rules.specs.Validity.{validPort, validReadback, restingSlot, validLength, runningSlot, validSlot, validProgress, validCore, total, most64};
+ghost use Rattle.rules.specs.Validity.{validPort, validReadback, restingSlot, validLength, runningSlot, validSlot, validProgress, validCore, total, most64, valid};
 use crate::block;
 use crate::pending;
 use crate::slot;
@@ -79,7 +79,7 @@ fn valid_progress(enabled: bool, b: Block, s: Slot) -> bool
 }
 
 // The core is valid.
-pub fn valid_core(c: Core) -> bool
+fn valid_core(c: Core) -> bool
     ensures { λ r. ⌜ r ≡ validCore c ⌝ }
 {
     let a = c.a;
@@ -110,7 +110,7 @@ pub fn valid_core(c: Core) -> bool
 }
 
 // The sum of the clock counts fits 64 bits; no sum wraps on the way.
-pub fn fits(k: Clocks) -> bool
+fn fits(k: Clocks) -> bool
     ensures { λ r. ⌜ r ≡ leb (total k) most64 ⌝ }
 {
     if MOST - k.bus < k.held {
@@ -121,4 +121,14 @@ pub fn fits(k: Clocks) -> bool
         return false;
     }
     true
+}
+
+// The core is valid and the sum of the clock counts fits.
+pub fn is_valid(c: Core, k: Clocks) -> bool
+    ensures { λ r. ⌜ r ≡ valid c (total k) ⌝ }
+{
+    if !valid_core(c) {
+        return false;
+    }
+    fits(k)
 }

@@ -6,17 +6,17 @@ use native.Mathlib.Nat.{add-zero, add-suc}
 use mathlib.Core.Path.{_≡_, refl, sym, _∙_, ap}
 use Rattle.rules.specs.Validity.{total}
 use Rattle.rules.specs.Facts.{Kept}
-use Rattle.rules.specs.Clock.{Kind, busClock, heldClock, cpuClock, counted, clockOf}
+use Rattle.rules.specs.Clock.{Kind, busClock, heldClock, cpuClock, countedBy, clockOf}
 use Rattle.rules.specs.Buffers.{Store}
 use Rattle.rules.specs.World.{System, stepCounted, clocked}
 use Rattle.rules.specs.declared.Clocks.{Clocks}
 use Rattle.rules.proofs.Clocking.{clock-kept}
 
--- a clock adds 1 to the sum of the counts
-pub total-counted : (k : Kind) (x : Clocks) → total (counted k x) ≡ total x + 1
-total-counted busClock x = omega arith
-total-counted heldClock x = omega arith
-total-counted cpuClock x = omega arith
+-- n clocks of a kind add n to the sum of the counts
+pub total-counted : (k : Kind) (n : ℕ) (x : Clocks) → total (countedBy k n x) ≡ total x + n
+total-counted busClock n x = omega arith
+total-counted heldClock n x = omega arith
+total-counted cpuClock n x = omega arith
 
 module _ {M : Type 0} (σ : Store M) where
   pub clocked-zero : (s : System M) → clocked σ 0 s ≡ s
@@ -41,7 +41,7 @@ module _ {M : Type 0} (σ : Store M) where
   clocked-total zero s = ap (λ (t : System M). total (t .clocks)) (clocked-zero s) ∙ sym (add-zero _)
   clocked-total (suc n) s =
       ap (λ (t : System M). total (t .clocks)) (clocked-suc n s)
-      ∙ total-counted (clockOf (clocked σ n s .world .core) .kind) (clocked σ n s .clocks)
+      ∙ total-counted (clockOf (clocked σ n s .world .core) .kind) 1 (clocked σ n s .clocks)
       ∙ (let h = clocked-total n s in omega arith)
 
   -- n clocks keep a valid core valid

@@ -15,6 +15,7 @@ pub mod Counting
 pub mod Spans
 pub mod Stretches
 pub mod WholeSlots
+pub mod Turns
 pub mod Calls
 pub mod Refusing
 pub mod Counter

@@ -1,11 +1,13 @@
 -- What the rules do to a port keeps it valid and within its types: said once, for A and B.
 -- Assumes nothing.
-use Prim.Native.Nat.{ℕ, _≤_, _<_}
+use Prim.Native.Nat.{ℕ, zero, suc, _+_, _%_, _≤_, _<_}
 use native.Mathlib.Omega.{arith}
-use mathlib.Core.Path.{_≡_}
-use mathlib.Core.Bool.{true}
+use mathlib.Core.Path.{_≡_, refl}
+use mathlib.Core.Bool.{Bool, true, false}
+use lib.Dec.{eqb}
+use Rattle.rules.specs.Choice.{pick}
 use Rattle.rules.specs.Bytes.{withLow, withHigh}
-use Rattle.rules.specs.Ports.{configured, cycleOf, timed, addressedLow, addressedHigh, resetTiming, loaded, stepped, advanced}
+use Rattle.rules.specs.Ports.{configured, cycleOf, timed, addressedLow, addressedHigh, resetTiming, loaded, stepped, advanced, stride, steppedBy}
 use Rattle.rules.specs.Validity.{validPort}
 use Rattle.rules.specs.Facts.{PortInRange, ValidCycle}
 use Rattle.rules.specs.declared.Port.{Port}
@@ -60,3 +62,21 @@ stepped-fits step pointer h =
 pub good-advanced : (p : Port) → GoodPort p → GoodPort (advanced p)
 good-advanced p g =
     record { cycle = omega arith; range = record { address = g .range .address; pointer = stepped-fits _ _ (g .range .pointer); step = g .range .step } }
+
+-- ---- steps by a stride
+
+pub stepped-by-below : (k step p : ℕ) → p < 65536 → steppedBy k step p < 65536
+unfolding steppedBy
+stepped-by-below zero step p h = h
+stepped-by-below (suc k) step p h = stepped-fits step (steppedBy k step p) (stepped-by-below k step p h)
+
+-- a step is its stride added, modulo 65,536
+by-stride : (down up : Bool) (p : ℕ) → p < 65536 → (p + pick down 65535 (pick up 1 0)) % 65536 ≡ pick down ((p + 65535) % 65536) (pick up ((p + 1) % 65536) p)
+unfolding pick
+by-stride true up p h = refl
+by-stride false true p h = refl
+by-stride false false p h = omega arith
+
+pub stepped-stride : (step p : ℕ) → p < 65536 → (p + stride step) % 65536 ≡ stepped step p
+unfolding stepped stride
+stepped-stride step p h = by-stride (eqb step 0) (eqb step 1) p h

@@ -8,28 +8,33 @@ use native.Mathlib.Numerals.{add-one}
 use mathlib.Core.Path.{_≡_, refl, sym, _∙_, ap, subst}
 use mathlib.Core.Bool.{Bool, false}
 use Rattle.rules.specs.Choice.{pick}
-use Rattle.rules.specs.Clock.{Kind, busClock, heldClock, cpuClock, counted, clockOf}
+use Rattle.rules.specs.Clock.{Kind, busClock, heldClock, cpuClock, countedBy, counted, clockOf}
 use Rattle.rules.specs.Buffers.{Store, Buffers, source, destination}
-use Rattle.rules.specs.World.{System, buffersAfter, clocked}
-use Rattle.rules.specs.Spans.{kindCode, ticks, countedBy, buffersBetween, IsSpan, IsLongest, IsLongestSpan, SpansSettled}
-use Rattle.rules.specs.declared.Place.{Place}
+use Rattle.rules.specs.World.{System, system, buffersAfter, clocked}
+use Rattle.rules.specs.Spans.{kindCode, kindOf, ticks, span, IsSpan, IsLongest, IsLongestSpan, spanPassed, SpansAreClocks, SpansSettled}
 use Rattle.rules.specs.declared.Clocks.{Clocks}
 use Rattle.rules.specs.declared.Core.{Core}
-use Rattle.rules.proofs.Choice.{clash, pick-both, pick-false, any-cases, any-none}
+use Rattle.rules.specs.declared.Span.{Span}
+use Rattle.rules.proofs.Choice.{clash, pick-false, any-cases, any-none}
 use Rattle.rules.proofs.Counting.{clocked-zero, clocked-suc}
 
--- one clock counted, after n of its kind
-counted-more : (k : Kind) (kind n : ℕ) (x : Clocks) → kindCode k ≡ kind → counted k (countedBy kind n x) ≡ countedBy kind (suc n) x
-unfolding countedBy pick
-counted-more busClock kind n x e = rw (← e) (simp (add-assoc, add-one))
-counted-more heldClock kind n x e = rw (← e) (simp (add-assoc, add-one))
-counted-more cpuClock kind n x e = rw (← e) (simp (add-assoc, add-one))
+-- a kind's number is the kind's
+pub kind-of-code : (k : Kind) → kindOf (kindCode k) ≡ k
+unfolding kindOf pick
+kind-of-code busClock = refl
+kind-of-code heldClock = refl
+kind-of-code cpuClock = refl
 
-pub counted-none : (kind : ℕ) (x : Clocks) → countedBy kind 0 x ≡ x
-unfolding countedBy
-counted-none kind x =
-    pick-both (λ (y : Clocks). y ≡ x) _ _ _ (simp add-zero)
-    (pick-both (λ (y : Clocks). y ≡ x) _ _ _ (simp add-zero) (simp add-zero))
+-- one clock counted, after n of its kind
+counted-more : (k : Kind) (n : ℕ) (x : Clocks) → counted k (countedBy k n x) ≡ countedBy k (suc n) x
+counted-more busClock n x = simp (add-assoc, add-one)
+counted-more heldClock n x = simp (add-assoc, add-one)
+counted-more cpuClock n x = simp (add-assoc, add-one)
+
+pub counted-none : (k : Kind) (x : Clocks) → countedBy k 0 x ≡ x
+counted-none busClock x = simp add-zero
+counted-none heldClock x = simp add-zero
+counted-none cpuClock x = simp add-zero
 
 pub ticks-zero : (c : Core) → ticks 0 c ≡ c
 unfolding ticks
@@ -48,11 +53,15 @@ module _ {M : Type 0} (σ : Store M) (s : System M) where
       ∙ ap (λ (c : Core). clockOf c .next) (clocked-core n)
       ∙ sym (ticks-suc n _)
 
+  -- the buffers after one clock of a core
+  abbrev after : Core → Buffers M → Buffers M
+  after c b = buffersAfter σ (clockOf c .moves) (source c) (destination c) b
+
   -- the buffers after one more clock
-  clocked-buffers : (n : ℕ) → clocked σ (suc n) s .world .buffers ≡ buffersAfter σ (clockOf (ticks n (s .world .core)) .moves) (ticks n (s .world .core)) (clocked σ n s .world .buffers)
+  clocked-buffers : (n : ℕ) → clocked σ (suc n) s .world .buffers ≡ after (ticks n (s .world .core)) (clocked σ n s .world .buffers)
   clocked-buffers n =
       ap (λ (t : System M). t .world .buffers) (clocked-suc σ n s)
-      ∙ ap (λ (c : Core). buffersAfter σ (clockOf c .moves) c (clocked σ n s .world .buffers)) (clocked-core n)
+      ∙ ap (λ (c : Core). after c (clocked σ n s .world .buffers)) (clocked-core n)
 
   -- the counts after one more clock
   clocked-clocks : (n : ℕ) → clocked σ (suc n) s .clocks ≡ counted (clockOf (ticks n (s .world .core)) .kind) (clocked σ n s .clocks)
@@ -60,44 +69,50 @@ module _ {M : Type 0} (σ : Store M) (s : System M) where
       ap (λ (t : System M). t .clocks) (clocked-suc σ n s)
       ∙ ap (λ (c : Core). counted (clockOf c .kind) (clocked σ n s .clocks)) (clocked-core n)
 
-  module _ {budget n kind : ℕ} {moves : Bool} {from to : Place} {next : Core} (p : IsSpan (s .world .core) budget n kind moves from to next) where
+  module _ {budget : ℕ} {x : Span} (p : IsSpan (s .world .core) budget x) where
     -- before the last clock the buffers are as they were
-    still-buffers : (i : ℕ) → i < n → clocked σ i s .world .buffers ≡ s .world .buffers
+    still-buffers : (i : ℕ) → i < x .clocks → clocked σ i s .world .buffers ≡ s .world .buffers
     unfolding buffersAfter
     still-buffers zero h = ap (λ (t : System M). t .world .buffers) (clocked-zero σ s)
     still-buffers (suc i) h =
         clocked-buffers i ∙ pick-false _ _ _ (p .quiet i (omega arith)) ∙ still-buffers i (omega arith)
 
+    -- the kind of each clock is the span's
+    span-kind : (i : ℕ) → i < x .clocks → clockOf (ticks i (s .world .core)) .kind ≡ kindOf (x .kind)
+    span-kind i h = sym (kind-of-code _) ∙ ap kindOf (p .kinds i h)
+
     -- all clocks are counted by the one kind
-    still-clocks : (i : ℕ) → i ≤ n → clocked σ i s .clocks ≡ countedBy kind i (s .clocks)
-    still-clocks zero h = ap (λ (t : System M). t .clocks) (clocked-zero σ s) ∙ sym (counted-none kind (s .clocks))
+    still-clocks : (i : ℕ) → i ≤ x .clocks → clocked σ i s .clocks ≡ countedBy (kindOf (x .kind)) i (s .clocks)
+    still-clocks zero h = ap (λ (t : System M). t .clocks) (clocked-zero σ s) ∙ sym (counted-none (kindOf (x .kind)) (s .clocks))
     still-clocks (suc i) h =
         clocked-clocks i
-        ∙ ap (counted (clockOf (ticks i (s .world .core)) .kind)) (still-clocks i (omega arith))
-        ∙ counted-more (clockOf (ticks i (s .world .core)) .kind) kind i (s .clocks) (p .kinds i h)
+        ∙ (λ j. counted (span-kind i h j) (still-clocks i (omega arith) j))
+        ∙ counted-more (kindOf (x .kind)) i (s .clocks)
 
     -- the byte moves on the last clock
-    last-buffers : (i : ℕ) → i ≡ n → clocked σ i s .world .buffers ≡ buffersBetween σ moves from to (s .world .buffers)
-    unfolding buffersBetween buffersAfter
+    last-buffers : (i : ℕ) → i ≡ x .clocks → clocked σ i s .world .buffers ≡ buffersAfter σ (x .moves) (x .from) (x .to) (s .world .buffers)
+    unfolding buffersAfter
     last-buffers zero e =
         ap (λ (t : System M). t .world .buffers) (clocked-zero σ s) ∙ sym (pick-false _ _ _ (p .none (sym e)))
     last-buffers (suc i) e =
         clocked-buffers i
-        ∙ ap (λ (b : Buffers M). buffersAfter σ (clockOf (ticks i (s .world .core)) .moves) (ticks i (s .world .core)) b) (still-buffers i (omega arith))
-        ∙ (let z : i + 1 ≡ n = omega arith in simp (p .last i z, p .source i z, p .destination i z))
+        ∙ ap (after (ticks i (s .world .core))) (still-buffers i (omega arith))
+        ∙ (let z : i + 1 ≡ x .clocks = omega arith in simp (p .last i z, p .source i z, p .destination i z))
 
     -- a span is its clocks
-    pub span-clocked : clocked σ n s ≡ record { world = record { core = next; buffers = buffersBetween σ moves from to (s .world .buffers) }; clocks = countedBy kind n (s .clocks) }
+    pub span-clocked : clocked σ (x .clocks) s ≡ spanPassed σ x s
     span-clocked =
-        let c : clocked σ n s .world .core ≡ next = clocked-core n ∙ p .core in
-        let b = last-buffers n refl in
-        let k = still-clocks n (le-refl n) in
-        λ i. record { world = record { core = c i; buffers = b i }; clocks = k i }
+        let c : clocked σ (x .clocks) s .world .core ≡ x .next = clocked-core (x .clocks) ∙ p .core in
+        let b = last-buffers (x .clocks) refl in
+        let k = still-clocks (x .clocks) (le-refl (x .clocks)) in λ i. system (c i) (b i) (k i)
+
+pub spans-are-clocks : {M : Type 0} (σ : Store M) → SpansAreClocks σ
+spans-are-clocks σ = record { spans = λ s budget x p. span-clocked σ s p }
 
 -- ---- spans of no clock and of one
 
-pub span-none : (c : Core) (budget kind : ℕ) (from to : Place) → budget ≡ 0 → IsSpan c budget 0 kind false from to c
-span-none c budget kind from to e =
+pub span-none : (c : Core) (budget : ℕ) (kind : Kind) → budget ≡ 0 → IsSpan c budget (span kind 0 false c c)
+span-none c budget kind e =
     record {
       within = omega arith;
       some = λ h. omega arith;
@@ -110,7 +125,7 @@ span-none c budget kind from to e =
       core = ticks-zero c;
     }
 
-pub span-one : (c : Core) (budget : ℕ) → (budget ≡ 0 → ⊥) → IsSpan c budget 1 (kindCode (clockOf c .kind)) (clockOf c .moves) (source c) (destination c) (clockOf c .next)
+pub span-one : (c : Core) (budget : ℕ) → (budget ≡ 0 → ⊥) → IsSpan c budget (span (clockOf c .kind) 1 (clockOf c .moves) c (clockOf c .next))
 span-one c budget n =
     record {
       within = omega (arith, n);
@@ -130,20 +145,24 @@ span-one c budget n =
 -- ---- a span's promise settles its answer
 
 -- a longest span is not shorter than a span within the same budget that stays within the slot
-longest-least : {c : Core} {budget n m kind kind′ : ℕ} {moves moves′ : Bool} {from from′ to to′ : Place} {next next′ : Core} → IsSpan c budget n kind moves from to next → IsLongest c budget n moves → IsSpan c budget m kind′ moves′ from′ to′ next′ → IsLongest c budget m moves′ → n < m → ⊥
-longest-least {n = zero} p l q g h = omega (arith, p .some (omega (arith, q .within)))
-longest-least {n = suc i} p l q g h =
-    any-cases _ _ (l .reached i (omega arith) (omega (arith, q .within)))
-    (λ e. clash (sym (q .quiet i (omega arith)) ∙ p .last i (omega arith) ∙ e))
-    (λ x. any-cases _ _ x (λ e. clash (sym (g .inside i (omega arith)) ∙ e)) any-none)
+longest-least : {c : Core} {budget : ℕ} {x y : Span} → IsLongestSpan c budget x → IsLongestSpan c budget y → (n : ℕ) → n ≡ x .clocks → n < y .clocks → ⊥
+longest-least p q zero e h = omega (arith, p .0 .some (omega (arith, q .0 .within)))
+longest-least p q (suc i) e h =
+    any-cases _ _ (p .1 .reached i (omega arith) (omega (arith, q .0 .within)))
+    (λ d. clash (sym (q .0 .quiet i (omega arith)) ∙ p .0 .last i (omega arith) ∙ d))
+    (λ d. any-cases _ _ d (λ f. clash (sym (q .1 .inside i (omega arith)) ∙ f)) any-none)
 
+-- spans of as many clocks, n of them, agree in all but the number of the clocks
 settle :
-    {c : Core} {budget n kind kind′ : ℕ} {moves moves′ : Bool} {from from′ to to′ : Place} {next next′ : Core}
-    → IsSpan c budget n kind moves from to next → IsSpan c budget n kind′ moves′ from′ to′ next′
-    → (next ≡ next′) × (moves ≡ moves′) × (0 < n → (kind ≡ kind′) × (from ≡ from′) × (to ≡ to′))
-settle {n = zero} p q = (sym (p .core) ∙ q .core, p .none refl ∙ sym (q .none refl), λ h. absurd (omega arith))
-settle {n = suc i} p q = (
-  sym (p .core) ∙ q .core,
+    {c : Core} {budget : ℕ} {x y : Span} → IsSpan c budget x → IsSpan c budget y → (n : ℕ) → n ≡ x .clocks → n ≡ y .clocks
+    → (x .next ≡ y .next) × (x .moves ≡ y .moves) × (0 < n → (x .kind ≡ y .kind) × (x .from ≡ y .from) × (x .to ≡ y .to))
+settle {c} p q zero d e = (
+  sym (p .core) ∙ ap (λ (k : ℕ). ticks k c) (sym d ∙ e) ∙ q .core,
+  p .none (sym d) ∙ sym (q .none (sym e)),
+  λ h. absurd (omega arith),
+)
+settle {c} p q (suc i) d e = (
+  sym (p .core) ∙ ap (λ (k : ℕ). ticks k c) (sym d ∙ e) ∙ q .core,
   sym (p .last i (omega arith)) ∙ q .last i (omega arith),
   λ h. (
     sym (p .kinds i (omega arith)) ∙ q .kinds i (omega arith),
@@ -156,12 +175,12 @@ same : {n m : ℕ} → (n < m → ⊥) → (m < n → ⊥) → n ≡ m
 same f g = omega (arith, f, g)
 
 settled :
-    {c : Core} {budget n m kind kind′ : ℕ} {moves moves′ : Bool} {from from′ to to′ : Place} {next next′ : Core}
-    → IsLongestSpan c budget n kind moves from to next → IsLongestSpan c budget m kind′ moves′ from′ to′ next′
-    → (n ≡ m) × (next ≡ next′) × (moves ≡ moves′) × (0 < n → (kind ≡ kind′) × (from ≡ from′) × (to ≡ to′))
-settled {c} {budget} {kind′ = kind′} {moves′ = moves′} {from′ = from′} {to′ = to′} {next′ = next′} p q =
-    let e = same (longest-least (p .0) (p .1) (q .0) (q .1)) (longest-least (q .0) (q .1) (p .0) (p .1)) in
-    let s = settle (p .0) (subst (λ (k : ℕ). IsSpan c budget k kind′ moves′ from′ to′ next′) (sym e) (q .0)) in (e, s .0, s .1, s .2)
+    {c : Core} {budget : ℕ} {x y : Span} → IsLongestSpan c budget x → IsLongestSpan c budget y
+    → (x .clocks ≡ y .clocks) × (x .next ≡ y .next) × (x .moves ≡ y .moves)
+    × (0 < x .clocks → (x .kind ≡ y .kind) × (x .from ≡ y .from) × (x .to ≡ y .to))
+settled {x = x} {y} p q =
+    let e = same (longest-least p q (x .clocks) refl) (longest-least q p (y .clocks) refl) in
+    let s = settle (p .0) (q .0) (x .clocks) refl e in (e, s .0, s .1, s .2)
 
 pub spans-settled : SpansSettled
 spans-settled = record { settled = settled }

@@ -13,17 +13,18 @@ use borrow.Author.Tests.{eq-eqb, ne-eqb, le-leb, lt-leb, lt-ltb, le-ltb, eqb-tru
 use Rattle.rules.specs.Choice.{pick, every, any}
 use Rattle.rules.specs.Parts.{withSlot}
 use Rattle.rules.specs.Blocks.{finished}
-use Rattle.rules.specs.Clock.{busClock, heldClock, cpuClock, Clock, Ending, clock, newSlot, moved, withElapsed, stopped, movesAt, movedAt, kindAt, slotEnd, clockEnd, slotClock, firstClock, clockOf}
+use Rattle.rules.specs.Clock.{Kind, busClock, cpuClock, countedBy, Clock, Ending, clock, newSlot, moved, withElapsed, stopped, movesAt, movedAt, waitKind, kindAt, slotEnd, clockEnd, slotClock, firstClock, clockOf}
 use Rattle.rules.specs.Buffers.{Store, Buffers, source, destination}
-use Rattle.rules.specs.World.{system, clocked}
-use Rattle.rules.specs.Spans.{kindCode, ticks, countedBy, buffersBetween, IsSpan, endsSlot, IsLongest}
+use Rattle.rules.specs.World.{system, buffersAfter, clocked}
+use Rattle.rules.specs.Spans.{kindCode, ticks, span, IsSpan, endsSlot, IsLongest, IsLongestSpan}
 use Rattle.rules.specs.Stretches.{least, slotOf, begun, slotRest, stretchRest, quiet, elapsedBy, WaitsAreClocks}
 use Rattle.rules.specs.declared.Place.{Place}
 use Rattle.rules.specs.declared.Slot.{Slot}
 use Rattle.rules.specs.declared.Clocks.{Clocks}
 use Rattle.rules.specs.declared.Core.{Core}
+use Rattle.rules.specs.declared.Span.{Span}
 use Rattle.rules.proofs.Choice.{pick-true, pick-false, pick-both, pick-cases, pick-ap, either, all-true, true-all, any-first, any-more, any-cases, any-none, every-stop, every-stop-later, clash}
-use Rattle.rules.proofs.Spans.{ticks-zero, ticks-suc, span-one, span-clocked}
+use Rattle.rules.proofs.Spans.{kind-of-code, ticks-zero, ticks-suc, span-one, span-clocked}
 
 -- ---- a slot's n-th clock
 
@@ -92,6 +93,11 @@ runs-begun c on u =
       destination = refl;
     }
 
+-- n clocks of the stretch as a span
+abbrev pub stretch : Core → Core → ℕ → Span
+stretch c d n =
+    span (kindAt (c .slot .elapsed + n) d) n (movesAt (c .slot .elapsed + n) d) c (slotClock (c .slot .elapsed + n) d .next)
+
 -- n clocks end at the move at the latest, or begin behind it
 pub data Part (e n bus : ℕ) : Type 0 where
   toMove : e + n ≤ bus → Part e n bus
@@ -148,7 +154,7 @@ module _ {c d : Core} (r : Runs c d) {n : ℕ} (w : Within (c .slot .elapsed) n 
   -- within a stretch the kind is that of its last clock
   run-kind : (i : ℕ) → i < n → kindAt (c .slot .elapsed + i + 1) d ≡ kindAt (c .slot .elapsed + n) d
   unfolding kindAt
-  run-kind i l = ap (λ (t : Bool). pick t busClock (pick (d .slot .burst) cpuClock heldClock)) (same (w .part))
+  run-kind i l = ap (λ (t : Bool). pick t busClock (waitKind (d .slot .burst))) (same (w .part))
     where
       same : Part (c .slot .elapsed) n (d .slot .bus) → leb (c .slot .elapsed + i + 1) (d .slot .bus) ≡ leb (c .slot .elapsed + n) (d .slot .bus)
       same (toMove g) = le-leb (c .slot .elapsed + i + 1) (d .slot .bus) (omega arith) ∙ sym (le-leb (c .slot .elapsed + n) (d .slot .bus) g)
@@ -164,7 +170,7 @@ module _ {c d : Core} (r : Runs c d) {n : ℕ} (w : Within (c .slot .elapsed) n 
   last-core (suc i) e l = ticks-suc i c ∙ ap (λ (x : Clock). x .next) (last-clock i (omega arith))
 
   -- a stretch, or the first clocks of one, is a span
-  pub stretch-span : (budget : ℕ) → 0 < n → n ≤ budget → IsSpan c budget n (kindCode (kindAt (c .slot .elapsed + n) d)) (movesAt (c .slot .elapsed + n) d) (source c) (destination c) (slotClock (c .slot .elapsed + n) d .next)
+  pub stretch-span : (budget : ℕ) → 0 < n → n ≤ budget → IsSpan c budget (stretch c d n)
   unfolding slotClock
   stretch-span budget some within =
       record {
@@ -180,7 +186,7 @@ module _ {c d : Core} (r : Runs c d) {n : ℕ} (w : Within (c .slot .elapsed) n 
       }
 
   -- it is the longest where it ends with the budget, the move or the slot
-  pub stretch-longest : (budget : ℕ) → (n < budget → any (movesAt (c .slot .elapsed + n) d ∷ leb (d .slot .length) (c .slot .elapsed + n) ∷ []) ≡ true) → IsLongest c budget n (movesAt (c .slot .elapsed + n) d)
+  pub stretch-longest : (budget : ℕ) → (n < budget → any (movesAt (c .slot .elapsed + n) d ∷ leb (d .slot .length) (c .slot .elapsed + n) ∷ []) ≡ true) → IsLongest c budget (stretch c d n)
   stretch-longest budget h =
       record {
         inside = λ i l. every-stop-later _ _ (every-stop _ _ (ap (λ (x : Core). eqb (x .slot .elapsed) 0) (sym (ticks-suc i c) ∙ run-next i l (run-clock i (omega arith))) ∙ ne-eqb (c .slot .elapsed + i + 1) 0 (λ e. omega arith)));
@@ -299,10 +305,10 @@ module _ (c : Core) (on : c .enabled ≡ true) (fresh : c .slot .elapsed ≡ 0 �
     pub next-some : 0 < n
     next-some = positive (l .first) (l .one) (rest-facts (slotOf c) .some) some
 
-    pub next-span : IsSpan c budget n (kindCode (kindAt (c .slot .elapsed + n) (begun c))) (movesAt (c .slot .elapsed + n) (begun c)) (source c) (destination c) (slotClock (c .slot .elapsed + n) (begun c) .next)
+    pub next-span : IsSpan c budget (stretch c (begun c) n)
     next-span = stretch-span (runs-begun c on fresh) (within-slot n (l .second)) budget next-some (l .first)
 
-    pub next-longest : IsLongest c budget n (movesAt (c .slot .elapsed + n) (begun c))
+    pub next-longest : IsLongest c budget (stretch c (begun c) n)
     next-longest = stretch-longest (runs-begun c on fresh) (within-slot n (l .second)) budget (λ h. reached (l .one h))
       where
         reached : n ≡ stretchRest (slotOf c) → any (movesAt (c .slot .elapsed + n) (begun c) ∷ leb (slotOf c .length) (c .slot .elapsed + n) ∷ []) ≡ true
@@ -321,7 +327,7 @@ idle-core c off zero = ticks-zero c
 idle-core c off (suc i) = ticks-suc i c ∙ ap (λ (d : Core). clockOf d .next) (idle-core c off i) ∙ ap (λ (x : Clock). x .next) (clock-idle c off)
 
 -- all clocks of a budget are the processor's
-pub idle-span : (c : Core) (budget : ℕ) → c .enabled ≡ false → IsSpan c budget budget 2 false (source c) (destination c) c
+pub idle-span : (c : Core) (budget : ℕ) → c .enabled ≡ false → IsSpan c budget (span cpuClock budget false c c)
 idle-span c budget off =
     record {
       within = omega arith;
@@ -338,7 +344,7 @@ idle-span c budget off =
     still : (i : ℕ) → clockOf (ticks i c) .moves ≡ false
     still i = ap (λ (d : Core). clockOf d .moves) (idle-core c off i) ∙ ap (λ (x : Clock). x .moves) (clock-idle c off)
 
-pub idle-longest : (c : Core) (budget : ℕ) → c .enabled ≡ false → IsLongest c budget budget false
+pub idle-longest : (c : Core) (budget : ℕ) → c .enabled ≡ false → IsLongest c budget (span cpuClock budget false c c)
 idle-longest c budget off =
     record {
       inside = λ i l. every-stop _ _ (ap (λ (d : Core). d .enabled) (idle-core c off i) ∙ off);
@@ -354,12 +360,12 @@ module _ (c : Core) (on : c .enabled ≡ true) (rest : c .slot .elapsed ≡ 0) (
   clock-stops = pick-true _ _ _ on ∙ pick-true _ _ _ (eq-eqb _ _ rest) ∙ pick-true _ _ _ done
 
   -- one clock, with which the device is disabled
-  pub stop-span : (budget : ℕ) → 0 < budget → IsSpan c budget 1 2 false (source c) (destination c) (stopped c)
+  pub stop-span : (budget : ℕ) → 0 < budget → IsSpan c budget (span cpuClock 1 false c (stopped c))
   stop-span budget h =
-      subst (λ (x : Clock). IsSpan c budget 1 (kindCode (x .kind)) (x .moves) (source c) (destination c) (x .next)) clock-stops
+      subst (λ (x : Clock). IsSpan c budget (span (x .kind) 1 (x .moves) c (x .next))) clock-stops
       (span-one c budget (λ z. omega arith))
 
-  pub stop-longest : (budget : ℕ) → IsLongest c budget 1 false
+  pub stop-longest : (budget : ℕ) → IsLongest c budget (span cpuClock 1 false c (stopped c))
   stop-longest budget =
       record {
         inside = λ i l. absurd (omega arith);
@@ -377,15 +383,19 @@ module _ (c : Core) (on : c .enabled ≡ true) (rest : c .slot .elapsed ≡ 0) (
 
 -- ---- clocks on which nothing happens
 
-still : {M : Type 0} (σ : Store M) (moves : Bool) (from to : Place) (b : Buffers M) → moves ≡ false → buffersBetween σ moves from to b ≡ b
-unfolding buffersBetween
+still : {M : Type 0} (σ : Store M) (moves : Bool) (from to : Place) (b : Buffers M) → moves ≡ false → buffersAfter σ moves from to b ≡ b
+unfolding buffersAfter
 still σ moves from to b e = pick-false _ _ _ e
 
+-- clocks of a span on which no byte moves
+still-clocked : {M : Type 0} (σ : Store M) {n : ℕ} (kind : Kind) {moves : Bool} {c next : Core} (b : Buffers M) (k : Clocks) → IsSpan c n (span kind n moves c next) → moves ≡ false → clocked σ n (system c b k) ≡ system next b (countedBy kind n k)
+still-clocked σ {n} kind {moves} {c} {next} b k p e =
+    span-clocked σ (system c b k) p
+    ∙ (λ i. system next (still σ moves (source c) (destination c) b e i) (countedBy (kind-of-code kind i) n k))
+
 -- clocks of a disabled device
-idle-clocked : {M : Type 0} (σ : Store M) (n : ℕ) (c : Core) (b : Buffers M) (k : Clocks) → c .enabled ≡ false → clocked σ n (system c b k) ≡ system c b (countedBy 2 n k)
-idle-clocked σ n c b k off =
-    span-clocked σ (system c b k) (idle-span c n off)
-    ∙ ap (λ (x : Buffers _). system c x (countedBy 2 n k)) (still σ false (source c) (destination c) b refl)
+idle-clocked : {M : Type 0} (σ : Store M) (n : ℕ) (c : Core) (b : Buffers M) (k : Clocks) → c .enabled ≡ false → clocked σ n (system c b k) ≡ system c b (countedBy cpuClock n k)
+idle-clocked σ n c b k off = still-clocked σ cpuClock b k (idle-span c n off) refl
 
 pub record Quiet (n : ℕ) (s : Slot) : Type 0 where
   pub some : 0 < n
@@ -410,17 +420,19 @@ kind-elapsed n e s c h = ap (λ (m : ℕ). kindAt (m + n) (withSlot s c)) (sym h
 quiet-clocked :
     {M : Type 0} (σ : Store M) (n : ℕ) (c : Core) (b : Buffers M) (k : Clocks) → c .enabled ≡ true
     → (c .slot .elapsed ≡ 0 → finished (c .block) ≡ false) → quiet n (slotOf c) ≡ true
-    → clocked σ n (system c b k) ≡ system (withSlot (elapsedBy n (slotOf c)) c) b (countedBy (kindCode (kindAt (slotOf c .elapsed + n) (withSlot (elapsedBy n (slotOf c)) c))) n k)
+    → clocked σ n (system c b k) ≡ system (withSlot (elapsedBy n (slotOf c)) c) b (countedBy (kindAt (slotOf c .elapsed + n) (withSlot (elapsedBy n (slotOf c)) c)) n k)
 quiet-clocked σ n c b k on fresh h =
     let q = quiet-facts n (slotOf c) h in
     let e = slot-elapsed c in
     let p = plain q e in
-    span-clocked σ (system c b k) (stretch-span (runs-begun c on fresh) (within-slot c on fresh n (omega (arith, q .below))) n (q .some) (le-refl n))
+    still-clocked σ (kindAt (c .slot .elapsed + n) (begun c)) b k
+    (stretch-span (runs-begun c on fresh) (within-slot c on fresh n (omega (arith, q .below))) n (q .some) (le-refl n))
+    (ne-eqb (c .slot .elapsed + n) (slotOf c .bus) (p .0))
     ∙ (λ i.
     system
     ((plain-next (c .slot .elapsed + n) (begun c) (p .0) (p .1) ∙ ap (λ (m : ℕ). withElapsed (m + n) (begun c)) (sym e)) i)
-    (still σ (movesAt (c .slot .elapsed + n) (begun c)) (source c) (destination c) b (ne-eqb (c .slot .elapsed + n) (slotOf c .bus) (p .0)) i)
-    (countedBy (kindCode (kind-elapsed n (c .slot .elapsed) (slotOf c) c e i)) n k))
+    b
+    (countedBy (kind-elapsed n (c .slot .elapsed) (slotOf c) c e i) n k))
   where
     plain : Quiet n (slotOf c) → slotOf c .elapsed ≡ c .slot .elapsed → (c .slot .elapsed + n ≡ slotOf c .bus → ⊥) × (c .slot .elapsed + n < slotOf c .length)
     plain q e = subst (λ (m : ℕ). (m + n ≡ slotOf c .bus → ⊥) × (m + n < slotOf c .length)) e (q .move, q .length)

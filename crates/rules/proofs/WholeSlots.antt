@@ -11,14 +11,13 @@ use borrow.Author.Tests.{eq-eqb, ne-eqb, le-leb, lt-leb, lt-ltb, le-ltb, ltb-tru
 use Rattle.rules.specs.Choice.{pick}
 use Rattle.rules.specs.Parts.{withCounter, withBlock, withSlot}
 use Rattle.rules.specs.Blocks.{blockCount, finished}
-use Rattle.rules.specs.Ports.{stepped}
+use Rattle.rules.specs.Ports.{steppedBy}
 use Rattle.rules.specs.Slots.{noSlot}
 use Rattle.rules.specs.Facts.{ValidParts, Kept, SlotLength, busTime, prescaled, ValidSlot, resting, running}
-use Rattle.rules.specs.Clock.{Ending, newSlot, moved, withElapsed, movesAt, movedAt, kindAt, slotEnd, clockEnd, slotClock}
+use Rattle.rules.specs.Clock.{busClock, countedBy, Ending, newSlot, moved, withElapsed, movesAt, movedAt, waitKind, kindAt, slotEnd, clockEnd, slotClock}
 use Rattle.rules.specs.Buffers.{Store, Buffers, source, destination, transfer}
-use Rattle.rules.specs.World.{System, system, clocked}
-use Rattle.rules.specs.Spans.{kindCode, countedBy, buffersBetween}
-use Rattle.rules.specs.WholeSlots.{stride, steppedBy, movedBy, waitKind, slotsCounted, transferred, slotsPassed, SlotsAreClocks, atSlotStart, slotsWithin}
+use Rattle.rules.specs.World.{System, system, buffersAfter, clocked}
+use Rattle.rules.specs.WholeSlots.{movedBy, slotsCounted, transferred, slotsPassed, SlotsAreClocks, atSlotStart, slotsWithin}
 use Rattle.rules.specs.declared.Slot.{Slot}
 use Rattle.rules.specs.declared.Clocks.{Clocks}
 use Rattle.rules.specs.declared.Core.{Core}
@@ -28,7 +27,7 @@ use Rattle.rules.proofs.Validity.{progress-facts}
 use Rattle.rules.proofs.Steady.{kept-steady, kept-slot}
 use Rattle.rules.proofs.Clocking.{new-length}
 use Rattle.rules.proofs.Counting.{clocked-add}
-use Rattle.rules.proofs.Spans.{span-clocked, counted-none}
+use Rattle.rules.proofs.Spans.{kind-of-code, counted-none, span-clocked}
 use Rattle.rules.proofs.Stretches.{clock-first, clock-later, Runs, Part, toMove, behind, stretch-span, least-facts}
 
 -- ---- the two clocks of a slot on which something happens
@@ -54,17 +53,13 @@ wait-end c h =
     ap (λ (d : Core). clockEnd (c .slot .length) d .core) (pick-false _ _ _ (ne-eqb (c .slot .length) (c .slot .bus) (λ e. omega arith)))
     ∙ ap (λ (x : Ending). x .core) (pick-false _ _ _ (le-ltb (c .slot .length) (c .slot .length) (le-refl _)))
 
-bus-kind : (c : Core) → kindCode (kindAt (c .slot .bus) c) ≡ 0
+bus-kind : (c : Core) → kindAt (c .slot .bus) c ≡ busClock
 unfolding kindAt
-bus-kind c = ap kindCode (pick-true _ _ _ (le-leb (c .slot .bus) (c .slot .bus) (le-refl _)))
+bus-kind c = pick-true _ _ _ (le-leb (c .slot .bus) (c .slot .bus) (le-refl _))
 
-wait-kind : (c : Core) → c .slot .bus < c .slot .length → kindCode (kindAt (c .slot .length) c) ≡ waitKind (c .slot .burst)
-unfolding kindAt waitKind
-wait-kind c h =
-    ap kindCode (pick-false _ _ _ (lt-leb (c .slot .length) (c .slot .bus) h))
-    ∙ either (c .slot .burst)
-    (λ e. ap kindCode (pick-true _ _ _ e) ∙ sym (pick-true _ _ _ e))
-    (λ e. ap kindCode (pick-false _ _ _ e) ∙ sym (pick-false _ _ _ e))
+wait-kind : (c : Core) → c .slot .bus < c .slot .length → kindAt (c .slot .length) c ≡ waitKind (c .slot .burst)
+unfolding kindAt
+wait-kind c h = pick-false _ _ _ (lt-leb (c .slot .length) (c .slot .bus) h)
 
 -- ---- one slot
 
@@ -81,10 +76,13 @@ module _ {M : Type 0} (σ : Store M) (s : System M) where
   stretch-clocked :
       {d : Core} {n m : ℕ} → Runs (s .world .core) d → s .world .core .slot .elapsed + n ≡ m
       → Part (s .world .core .slot .elapsed) n (d .slot .bus) → m ≤ d .slot .length → 0 < n
-      → clocked σ n s ≡ record { world = record { core = slotClock m d .next; buffers = buffersBetween σ (movesAt m d) (source (s .world .core)) (destination (s .world .core)) (s .world .buffers) }; clocks = countedBy (kindCode (kindAt m d)) n (s .clocks) }
-  stretch-clocked {d} {n} {m} r e p h l =
+      → clocked σ n s ≡ system (slotClock m d .next) (buffersAfter σ (movesAt m d) (source (s .world .core)) (destination (s .world .core)) (s .world .buffers)) (countedBy (kindAt m d) n (s .clocks))
+  stretch-clocked {d} {n} r e p h l =
       span-clocked σ s (stretch-span r (record { part = p; goesOn = λ i o. omega arith }) n l (le-refl n))
-      ∙ ap (λ (j : ℕ). record { world = record { core = slotClock j d .next; buffers = buffersBetween σ (movesAt j d) (source (s .world .core)) (destination (s .world .core)) (s .world .buffers) }; clocks = countedBy (kindCode (kindAt j d)) n (s .clocks) }) e
+      ∙ (λ i.
+      system (slotClock (e i) d .next)
+      (buffersAfter σ (movesAt (e i) d) (source (s .world .core)) (destination (s .world .core)) (s .world .buffers))
+      (countedBy ((kind-of-code _ ∙ ap (λ (j : ℕ). kindAt j d) e) i) n (s .clocks)))
 
 starts-runs : (c : Core) → Starts c → Runs c (withSlot (newSlot c) c)
 unfolding source destination
@@ -99,8 +97,8 @@ starts-runs c t =
 
 module _ {M : Type 0} (σ : Store M) (c : Core) (b : Buffers M) (k : Clocks) (t : Starts c) where
   -- the bus time: the byte moves on its last clock
-  bus-part : clocked σ (newSlot c .bus) (system c b k) ≡ system (slotClock (newSlot c .bus) (withSlot (newSlot c) c) .next) (transfer σ (source c) (destination c) b) (countedBy 0 (newSlot c .bus) k)
-  unfolding buffersBetween
+  bus-part : clocked σ (newSlot c .bus) (system c b k) ≡ system (slotClock (newSlot c .bus) (withSlot (newSlot c) c) .next) (transfer σ (source c) (destination c) b) (countedBy busClock (newSlot c .bus) k)
+  unfolding buffersAfter
   bus-part =
       stretch-clocked σ (system c b k) (starts-runs c t) (omega (arith, t .rest)) (toMove (omega (arith, t .rest))) (t .fits) (t .some)
       ∙ (λ i.
@@ -114,7 +112,7 @@ module _ {M : Type 0} (σ : Store M) (c : Core) (b : Buffers M) (k : Clocks) (on
   waits = record { on = on; running = on; first = clock-later c on (λ e. omega arith); source = refl; destination = refl }
 
   wait-part : clocked σ (c .slot .length - c .slot .bus) (system c b k) ≡ system (slotEnd c .core) b (countedBy (waitKind (c .slot .burst)) (c .slot .length - c .slot .bus) k)
-  unfolding buffersBetween
+  unfolding buffersAfter
   wait-part =
       stretch-clocked σ (system c b k) {m = c .slot .length} waits (omega arith) (behind (omega arith)) (le-refl _) (omega arith)
       ∙ (λ i.
@@ -132,34 +130,56 @@ unfolding slotEnd
 end-begun c = refl
 
 module _ {M : Type 0} (σ : Store M) (c : Core) (b : Buffers M) (k : Clocks) (t : Starts c) where
-  -- one slot: its length in clocks moves one byte
-  pub slot-clocked : clocked σ (newSlot c .length) (system c b k) ≡ system (slotEnd (moved c) .core) (transfer σ (source c) (destination c) b) (countedBy (waitKind (c .control .burst)) (newSlot c .length - newSlot c .bus) (countedBy 0 (newSlot c .bus) k))
-  slot-clocked =
-      either (ltb (newSlot c .bus) (newSlot c .length))
-      (λ e.
-      let h : newSlot c .bus < newSlot c .length = ltb-true (newSlot c .bus) (newSlot c .length) e in
-      ap (λ (n : ℕ). clocked σ n (system c b k)) (let z : newSlot c .length ≡ newSlot c .bus + (newSlot c .length - newSlot c .bus) = omega arith in z)
-      ∙ clocked-add σ (newSlot c .bus) (newSlot c .length - newSlot c .bus) (system c b k)
-      ∙ ap (clocked σ (newSlot c .length - newSlot c .bus)) (bus-part σ c b k t)
-      ∙ ap (λ (d : Core). clocked σ (newSlot c .length - newSlot c .bus) (system d (transfer σ (source c) (destination c) b) (countedBy 0 (newSlot c .bus) k))) (move-next (withSlot (newSlot c) c) h)
-      ∙ wait-part σ (withElapsed (newSlot c .bus) (moved (withSlot (newSlot c) c))) (transfer σ (source c) (destination c) b) (countedBy 0 (newSlot c .bus) k) (t .on) (t .some) h refl
-      ∙ ap (λ (d : Core). system d (transfer σ (source c) (destination c) b) (countedBy (waitKind (c .control .burst)) (newSlot c .length - newSlot c .bus) (countedBy 0 (newSlot c .bus) k))) (end-slot c _))
-      (λ e.
-      let h : newSlot c .length ≤ newSlot c .bus = ltb-false (newSlot c .bus) (newSlot c .length) e in
+  -- the slot's wait, the buffers behind the move, and the counts of the bus time and of the slot
+  abbrev wait : ℕ
+  wait = newSlot c .length - newSlot c .bus
+
+  abbrev given : Buffers M
+  given = transfer σ (source c) (destination c) b
+
+  abbrev used : Clocks
+  used = countedBy busClock (newSlot c .bus) k
+
+  abbrev spent : Clocks
+  spent = countedBy (waitKind (c .control .burst)) wait used
+
+  -- a slot with a wait
+  slot-waits : newSlot c .bus < newSlot c .length → clocked σ (newSlot c .length) (system c b k) ≡ system (slotEnd (moved c) .core) given spent
+  slot-waits h =
+      ap (λ (n : ℕ). clocked σ n (system c b k)) (let z : newSlot c .length ≡ newSlot c .bus + wait = omega arith in z)
+      ∙ clocked-add σ (newSlot c .bus) wait (system c b k)
+      ∙ ap (clocked σ wait) (bus-part σ c b k t ∙ ap (λ (d : Core). system d given used) (move-next (withSlot (newSlot c) c) h))
+      ∙ wait-part σ (withElapsed (newSlot c .bus) (moved (withSlot (newSlot c) c))) given used (t .on) (t .some) h refl
+      ∙ ap (λ (d : Core). system d given spent) (end-slot c _)
+
+  -- a slot that ends with its bus time
+  slot-moves : newSlot c .length ≤ newSlot c .bus → clocked σ (newSlot c .length) (system c b k) ≡ system (slotEnd (moved c) .core) given spent
+  slot-moves h =
       ap (λ (n : ℕ). clocked σ n (system c b k)) (let z : newSlot c .length ≡ newSlot c .bus = omega (arith, t .fits) in z)
       ∙ bus-part σ c b k t
-      ∙ (λ i. system ((move-end (withSlot (newSlot c) c) h ∙ end-begun c) i) (transfer σ (source c) (destination c) b) (countedBy 0 (newSlot c .bus) k))
-      ∙ ap (system (slotEnd (moved c) .core) (transfer σ (source c) (destination c) b))
-      (sym (counted-none (waitKind (c .control .burst)) (countedBy 0 (newSlot c .bus) k))
-      ∙ ap (λ (n : ℕ). countedBy (waitKind (c .control .burst)) n (countedBy 0 (newSlot c .bus) k)) (let z : 0 ≡ newSlot c .length - newSlot c .bus = omega arith in z)))
+      ∙ (λ i. system ((move-end (withSlot (newSlot c) c) h ∙ end-begun c) i) given (none i))
+    where
+      none : used ≡ spent
+      none =
+          sym (counted-none (waitKind (c .control .burst)) used)
+          ∙ ap (λ (n : ℕ). countedBy (waitKind (c .control .burst)) n used) (let z : 0 ≡ wait = omega arith in z)
+
+  -- one slot: its length in clocks moves one byte
+  pub slot-clocked : clocked σ (newSlot c .length) (system c b k) ≡ system (slotEnd (moved c) .core) (transfer σ (source c) (destination c) b) (slotsCounted 1 (newSlot c) k)
+  slot-clocked =
+      either (ltb (newSlot c .bus) (newSlot c .length))
+      (λ e. slot-waits (ltb-true (newSlot c .bus) (newSlot c .length) e))
+      (λ e. slot-moves (ltb-false (newSlot c .bus) (newSlot c .length) e))
+      ∙ (λ i. system (slotEnd (moved c) .core) given
+      (countedBy (waitKind (c .control .burst)) (sym (one-mul wait) i) (countedBy busClock (sym (one-mul (newSlot c .bus)) i) k)))
 
 -- ---- k slots
 
 -- the clocks of one slot more
-counted-again : (burst : Bool) (j w b : ℕ) (x : Clocks) → countedBy (waitKind burst) w (countedBy 0 b (countedBy (waitKind burst) (j * w) (countedBy 0 (j * b) x))) ≡ countedBy (waitKind burst) (suc j * w) (countedBy 0 (suc j * b) x)
-unfolding countedBy waitKind pick
-counted-again true j w b x = simp (suc-mul, add-assoc)
-counted-again false j w b x = simp (suc-mul, add-assoc)
+counted-again : (burst : Bool) (j w b : ℕ) (x : Clocks) → countedBy (waitKind burst) (1 * w) (countedBy busClock (1 * b) (countedBy (waitKind burst) (j * w) (countedBy busClock (j * b) x))) ≡ countedBy (waitKind burst) (suc j * w) (countedBy busClock (suc j * b) x)
+unfolding pick
+counted-again true j w b x = simp (suc-mul, one-mul, add-assoc)
+counted-again false j w b x = simp (suc-mul, one-mul, add-assoc)
 
 moved-more : (j : ℕ) (c : Core) → moved (movedBy j c) ≡ movedBy (suc j) c
 unfolding steppedBy
@@ -186,10 +206,9 @@ module _ {M : Type 0} (σ : Store M) (c : Core) (b : Buffers M) (k : Clocks) (t 
   pub slots-clocked : (j : ℕ) → c .block .counter + suc j ≤ blockCount (c .block) → clocked σ (suc j * newSlot c .length) (system c b k) ≡ slotsPassed σ (suc j) (system c b k)
   unfolding transferred source destination steppedBy
   slots-clocked zero h =
-      ap (λ (n : ℕ). clocked σ n (system c b k)) (let z : 1 * newSlot c .length ≡ newSlot c .length = omega arith in z)
+      ap (λ (n : ℕ). clocked σ n (system c b k)) (one-mul (newSlot c .length))
       ∙ slot-clocked σ c b k t
-      ∙ (λ i. system (slotEnd (moved-one c i) .core) (transferred σ 1 c b)
-      (countedBy (waitKind (c .control .burst)) (sym (one-mul (newSlot c .length - newSlot c .bus)) i) (countedBy 0 (sym (one-mul (newSlot c .bus)) i) k)))
+      ∙ ap (λ (d : Core). system (slotEnd d .core) (transferred σ 1 c b) (slotsCounted 1 (newSlot c) k)) (moved-one c)
   slots-clocked (suc j) h =
       ap (λ (n : ℕ). clocked σ n (system c b k)) (suc-mul (suc j) (newSlot c .length))
       ∙ clocked-add σ (suc j * newSlot c .length) (newSlot c .length) (system c b k)
@@ -275,26 +294,3 @@ slots-are-clocks σ = record { slots = slots }
     slots : (s : System _) (k : ℕ) → Kept (s .world .core) → s .world .core .enabled ≡ true → s .world .core .slot .elapsed ≡ 0 → 0 < k → s .world .core .block .counter + k ≤ blockCount (s .world .core .block) → clocked σ (k * newSlot (s .world .core) .length) s ≡ slotsPassed σ k s
     slots s zero h on e l b = absurd (omega arith)
     slots s (suc j) h on e l b = slots-clocked σ (s .world .core) (s .world .buffers) (s .clocks) (kept-starts (s .world .core) h on e) (kept-rest (s .world .core) h e) j b
-
--- ---- steps by a stride
-
-stepped-below : (step p : ℕ) → p < 65536 → stepped step p < 65536
-unfolding stepped
-stepped-below step p h =
-    pick-both (λ (n : ℕ). n < 65536) _ _ _ (omega arith) (pick-both (λ (n : ℕ). n < 65536) _ _ _ (omega arith) h)
-
-pub stepped-by-below : (k step p : ℕ) → p < 65536 → steppedBy k step p < 65536
-unfolding steppedBy
-stepped-by-below zero step p h = h
-stepped-by-below (suc k) step p h = stepped-below step (steppedBy k step p) (stepped-by-below k step p h)
-
--- a step is its stride added, modulo 65,536
-by-stride : (down up : Bool) (p : ℕ) → p < 65536 → (p + pick down 65535 (pick up 1 0)) % 65536 ≡ pick down ((p + 65535) % 65536) (pick up ((p + 1) % 65536) p)
-unfolding pick
-by-stride true up p h = refl
-by-stride false true p h = refl
-by-stride false false p h = omega arith
-
-pub stepped-stride : (step p : ℕ) → p < 65536 → (p + stride step) % 65536 ≡ stepped step p
-unfolding stepped stride
-stepped-stride step p h = by-stride (eqb step 0) (eqb step 1) p h

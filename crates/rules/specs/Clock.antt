@@ -19,11 +19,19 @@ use Rattle.rules.specs.declared.Core.{Core}
 pub data Kind : Type 0 where
   busClock heldClock cpuClock : Kind
 
--- a clock adds 1 to the count of its kind and to no other
+-- the count of one kind changed, the others as they are
+abbrev pub withCount : Kind → (ℕ → ℕ) → Clocks → Clocks
+withCount busClock f k = record { bus = f (k .bus); held = k .held; cpu = k .cpu }
+withCount heldClock f k = record { bus = k .bus; held = f (k .held); cpu = k .cpu }
+withCount cpuClock f k = record { bus = k .bus; held = k .held; cpu = f (k .cpu) }
+
+-- n clocks of a kind add n to its count and to no other
+abbrev pub countedBy : Kind → ℕ → Clocks → Clocks
+countedBy kind n k = withCount kind (λ count. count + n) k
+
+-- a clock adds 1
 abbrev pub counted : Kind → Clocks → Clocks
-counted busClock k = record { bus = k .bus + 1; held = k .held; cpu = k .cpu }
-counted heldClock k = record { bus = k .bus; held = k .held + 1; cpu = k .cpu }
-counted cpuClock k = record { bus = k .bus; held = k .held; cpu = k .cpu + 1 }
+counted kind k = countedBy kind 1 k
 
 -- what one clock is and does: its kind, whether a byte moves on it, what the counter held if it was put to zero, and the
 -- core after it
@@ -77,10 +85,13 @@ movesAt n c = eqb n (c .slot .bus)
 unfoldable pub movedAt : ℕ → Core → Core
 movedAt n c = pick (movesAt n c) (moved c) c
 
--- a clock within the bus time is a bus clock; a later one is waiting: for the processor in burst, with the bus held in
--- continuous
+-- waiting is for the processor in burst, and with the bus held in continuous
+abbrev pub waitKind : Bool → Kind
+waitKind burst = pick burst cpuClock heldClock
+
+-- a clock within the bus time is a bus clock; a later one is waiting
 unfoldable pub kindAt : ℕ → Core → Kind
-kindAt n c = pick (leb n (c .slot .bus)) busClock (pick (c .slot .burst) cpuClock heldClock)
+kindAt n c = pick (leb n (c .slot .bus)) busClock (waitKind (c .slot .burst))
 
 -- how a clock ends: what the counter held if it was put to zero, and the core
 pub record Ending : Type 0 where

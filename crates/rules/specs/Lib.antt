@@ -18,6 +18,7 @@ pub mod World
 pub mod Spans
 pub mod Stretches
 pub mod WholeSlots
+pub mod Turns
 pub mod Refusals
 pub mod Calls
 pub mod Keeping

@@ -1,6 +1,6 @@
 -- What is said of a port, once for A and B.
 -- Assumes nothing.
-use Prim.Native.Nat.{ℕ, _+_, _/_, _%_}
+use Prim.Native.Nat.{ℕ, zero, suc, _+_, _/_, _%_}
 use lib.Dec.{eqb}
 use Rattle.rules.specs.Choice.{pick}
 use Rattle.rules.specs.Bytes.{bit, withLow, withHigh}
@@ -41,3 +41,15 @@ stepped step pointer =
 
 abbrev pub advanced : Port → Port
 advanced p = withPointer (stepped (p .step) (p .pointer)) p
+
+-- what a step code adds to an address modulo 65,536
+unfoldable pub stride : ℕ → ℕ
+stride step = pick (eqb step 0) 65535 (pick (eqb step 1) 1 0)
+
+-- the address after k bytes
+unfoldable pub steppedBy : ℕ → ℕ → ℕ → ℕ
+steppedBy zero step pointer = pointer
+steppedBy (suc k) step pointer = stepped step (steppedBy k step pointer)
+
+abbrev pub advancedBy : ℕ → Port → Port
+advancedBy k p = withPointer (steppedBy k (p .step) (p .pointer)) p

@@ -9,10 +9,9 @@ use lib.Dec.{eqb, ltb}
 use Rattle.rules.specs.Choice.{pick, every}
 use Rattle.rules.specs.Parts.{withSlot}
 use Rattle.rules.specs.Blocks.{finished}
-use Rattle.rules.specs.Clock.{cpuClock, newSlot, kindAt}
+use Rattle.rules.specs.Clock.{cpuClock, countedBy, newSlot, kindAt}
 use Rattle.rules.specs.Buffers.{Store, Buffers}
 use Rattle.rules.specs.World.{system, clocked}
-use Rattle.rules.specs.Spans.{kindCode, countedBy}
 use Rattle.rules.specs.declared.Slot.{Slot}
 use Rattle.rules.specs.declared.Clocks.{Clocks}
 use Rattle.rules.specs.declared.Core.{Core}
@@ -50,7 +49,7 @@ pub record WaitsAreClocks {M : Type 0} (σ : Store M) : Type 0 where
   pub waits :
       (n : ℕ) (c : Core) (b : Buffers M) (k : Clocks)
       → c .enabled ≡ true → (c .slot .elapsed ≡ 0 → finished (c .block) ≡ false) → quiet n (slotOf c) ≡ true
-      → clocked σ n (system c b k) ≡ system (withSlot (elapsedBy n (slotOf c)) c) b (countedBy (kindCode (kindAt (slotOf c .elapsed + n) (withSlot (elapsedBy n (slotOf c)) c))) n k)
+      → clocked σ n (system c b k) ≡ system (withSlot (elapsedBy n (slotOf c)) c) b (countedBy (kindAt (slotOf c .elapsed + n) (withSlot (elapsedBy n (slotOf c)) c)) n k)
   pub idle :
       (n : ℕ) (c : Core) (b : Buffers M) (k : Clocks)
-      → c .enabled ≡ false → clocked σ n (system c b k) ≡ system c b (countedBy (kindCode cpuClock) n k)
+      → c .enabled ≡ false → clocked σ n (system c b k) ≡ system c b (countedBy cpuClock n k)

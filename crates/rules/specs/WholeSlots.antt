@@ -6,16 +6,14 @@ use mathlib.Core.Bool.{Bool, true, not}
 use mathlib.Core.List.{[], _∷_}
 use lib.Dec.{eqb, ltb}
 use Rattle.rules.specs.Choice.{pick, every}
-use Rattle.rules.specs.Parts.{withPointer, withCounter, withT, withA, withB, withBlock, withStatus}
-use Rattle.rules.specs.Ports.{stepped}
+use Rattle.rules.specs.Parts.{withCounter, withT, withA, withB, withBlock, withStatus}
+use Rattle.rules.specs.Ports.{advancedBy}
 use Rattle.rules.specs.Blocks.{blockCount, finished}
 use Rattle.rules.specs.Facts.{Kept}
-use Rattle.rules.specs.Clock.{newSlot, slotEnd}
+use Rattle.rules.specs.Clock.{busClock, countedBy, newSlot, waitKind, slotEnd}
 use Rattle.rules.specs.Buffers.{Store, Buffers, source, destination, transfer}
 use Rattle.rules.specs.World.{System, system, clocked}
-use Rattle.rules.specs.Spans.{countedBy}
 use Rattle.rules.specs.Stretches.{least}
-use Rattle.rules.specs.declared.Port.{Port}
 use Rattle.rules.specs.declared.Slot.{Slot}
 use Rattle.rules.specs.declared.Clocks.{Clocks}
 use Rattle.rules.specs.declared.Core.{Core}
@@ -30,31 +28,15 @@ unfoldable pub slotsWithin : Core → ℕ → ℕ
 slotsWithin c budget =
     pick (atSlotStart c) (least (budget / newSlot c .length) (blockCount (c .block) - c .block .counter)) 0
 
--- what a step code adds to an address modulo 65,536
-unfoldable pub stride : ℕ → ℕ
-stride step = pick (eqb step 0) 65535 (pick (eqb step 1) 1 0)
-
--- the address after k bytes
-unfoldable pub steppedBy : ℕ → ℕ → ℕ → ℕ
-steppedBy zero step pointer = pointer
-steppedBy (suc k) step pointer = stepped step (steppedBy k step pointer)
-
-abbrev pub advancedBy : ℕ → Port → Port
-advancedBy k p = withPointer (steppedBy k (p .step) (p .pointer)) p
-
 -- the core after k bytes, one at least
 abbrev pub movedBy : ℕ → Core → Core
 movedBy k c =
     withA (advancedBy k (c .a))
     (withB (advancedBy k (c .b)) (withBlock (withCounter (c .block .counter + k) (c .block)) (withStatus (withT true (c .status)) c)))
 
--- the number of the kind of a slot's waiting clocks
-unfoldable pub waitKind : Bool → ℕ
-waitKind burst = pick burst 2 1
-
 -- the clocks of k slots counted
 abbrev pub slotsCounted : ℕ → Slot → Clocks → Clocks
-slotsCounted k s x = countedBy (waitKind (s .burst)) (k * (s .length - s .bus)) (countedBy 0 (k * s .bus) x)
+slotsCounted k s x = countedBy (waitKind (s .burst)) (k * (s .length - s .bus)) (countedBy busClock (k * s .bus) x)
 
 module _ {M : Type 0} (σ : Store M) where
   -- the buffers after k bytes, one after the other

@@ -38,14 +38,17 @@ pub record Note : Type 0 where
   pub zeroed : Option ℕ
 
 module _ {M : Type 0} (σ : Store M) where
-  -- the buffers after one clock: the source is read and the destination written where a byte moves
-  unfoldable pub buffersAfter : Bool → Core → Buffers M → Buffers M
-  buffersAfter moves c b = pick moves (transfer σ (source c) (destination c) b) b
+  -- the buffers after one clock: where a byte moves, it is read at one place and written at the other
+  unfoldable pub buffersAfter : Bool → Place → Place → Buffers M → Buffers M
+  buffersAfter moves from to b = pick moves (transfer σ from to b) b
 
   -- one clock
   abbrev pub step : World M → World M
   step w =
-      record { core = clockOf (w .core) .next; buffers = buffersAfter (clockOf (w .core) .moves) (w .core) (w .buffers) }
+      record {
+        core = clockOf (w .core) .next;
+        buffers = buffersAfter (clockOf (w .core) .moves) (source (w .core)) (destination (w .core)) (w .buffers);
+      }
 
   -- the note of one clock
   abbrev pub note : World M → Note

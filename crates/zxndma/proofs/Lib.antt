@@ -1,2 +1,2 @@
-pub mod Going
+pub mod Turns
 pub mod Refusing

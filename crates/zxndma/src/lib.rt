@@ -2,35 +2,31 @@
 // answer; a refused call hands it back as it came.
 ghost use mathlib.Core.Path.{_≡_};
 ghost use Prim.Native.Nat.{_*_, _-_, _<_};
-ghost use Rattle.rules.specs.Validity.{total};
+ghost use Rattle.rules.specs.Validity.{total, valid};
 ghost use Rattle.rules.specs.Buffers.{lengthRefusal, flat};
 ghost use Rattle.rules.specs.World.{clocked};
 ghost use Rattle.rules.specs.Refusals.{lentRefusal, grantRefusal};
 ghost use Rattle.rules.specs.Calls.{writeReply, readReply, grant};
 ghost use Rattle.rules.specs.Parts.{withSlot};
-ghost use Rattle.rules.specs.Clock.{newSlot, kindAt};
-ghost use Rattle.rules.specs.Spans.{kindCode};
+ghost use Rattle.rules.specs.Clock.{cpuClock, newSlot, kindAt};
 ghost use Rattle.rules.specs.WholeSlots.{slotsWithin, slotsPassed};
+ghost use Rattle.rules.specs.Turns.{Ready, Passed};
 ghost use Rattle.clocking.specs.Answers.{borrowed, countedWithin};
-ghost use Rattle.zxndma.specs.Grants.{Ready, Passed};
 ghost use Rattle.zxndma.specs.Answers.{device, deviceAtPowerOn, writeAnswer, readAnswer, systemOf, grantAnswer};
 use clocking::clock;
 use clocking::count;
 use clocking::slots;
+use clocking::span;
 use clocking::stretch;
 use clocking::transfer;
-use parts::part;
-use parts::pending;
+use parts::power_on;
 use parts::refusal;
+use parts::slot;
 use parts::valid;
-use registers::command;
 use registers::readback;
 use registers::register;
-use rules::Block;
 use rules::Clocks;
-use rules::Control;
 use rules::Core;
-use rules::Port;
 use rules::Slot;
 
 // A zxnDMA: its core and its clock counts (document 01: books). Any content is a device; the calls refuse an invalid one.
@@ -80,45 +76,18 @@ impl Device {
     pub fn power_on() -> Self
         ensures { λ r. ⌜ r ≡ deviceAtPowerOn ⌝ }
     {
-        let port = Port {
-            address: 0,
-            pointer: 0,
-            io: false,
-            step: 1,
-            cycle: 4,
-        };
-        let block = Block {
-            length: 0,
-            counter: 0,
-            zilog: false,
-        };
-        let control = Control {
-            forward: true,
-            prescaler: 0,
-            burst: false,
-            restart: false,
-        };
-        let status = command::status_at_reset();
-        let readback = command::readback_at_reset();
-        let pending = pending::none();
-        let slot = part::no_slot();
-        let clocks = Clocks {
-            bus: 0,
-            held: 0,
-            cpu: 0,
-        };
-        let core = Core {
-            a: port,
-            b: port,
-            block,
-            control,
-            status,
-            readback,
-            pending,
-            enabled: false,
-            slot,
-        };
+        let core = power_on::core();
+        let clocks = power_on::no_clocks();
         Device { core, clocks }
+    }
+
+    // The device is valid: no call refuses it with 1.
+    pub fn is_valid(self) -> bool
+        ensures { λ r. ⌜ r ≡ valid (self .core) (total (self .clocks)) ⌝ }
+    {
+        let core = self.core;
+        let clocks = self.clocks;
+        valid::is_valid(core, clocks)
     }
 
     // A byte is written to the DMA's port: the port number's low byte is 6B (zxn mode) or 0B (Zilog mode). Refused with 1, 2
@@ -184,9 +153,8 @@ impl Device {
     fn grant_number(self, memory: usize, latches: usize, clocks: u32) -> u8
         ensures { λ r. ⌜ r ≡ lentRefusal (self .core) (total (self .clocks)) (lengthRefusal memory) latches clocks ⌝ }
     {
-        let core = self.core;
         let counts = self.clocks;
-        if !refusal::is_valid(core, counts) {
+        if !self.is_valid() {
             return 1;
         }
         if memory != 65536 {
@@ -221,11 +189,11 @@ impl Device {
 
     // Clocks of a disabled device.
     fn idle(self, clocks: u32) -> Device
-        ensures { λ r. ⌜ r ≡ device (self .core) (countedWithin 2 clocks (self .clocks)) ⌝ }
+        ensures { λ r. ⌜ r ≡ device (self .core) (countedWithin cpuClock clocks (self .clocks)) ⌝ }
     {
         let core = self.core;
         let counts = self.clocks;
-        let counted = count::add(clock::CPU, clocks, counts);
+        let counted = count::add(rules::CPU, clocks, counts);
         Device {
             core,
             clocks: counted,
@@ -234,7 +202,7 @@ impl Device {
 
     // Clocks after which the slot is this one and nothing else has happened.
     fn wait(self, clocks: u32, slot: Slot) -> Device
-        ensures { λ r. ⌜ r ≡ device (withSlot slot (self .core)) (countedWithin (kindCode (kindAt (slot .elapsed) (withSlot slot (self .core)))) clocks (self .clocks)) ⌝ }
+        ensures { λ r. ⌜ r ≡ device (withSlot slot (self .core)) (countedWithin (kindAt (slot .elapsed) (withSlot slot (self .core))) clocks (self .clocks)) ⌝ }
     {
         let core = self.core;
         let counts = self.clocks;
@@ -266,7 +234,7 @@ impl Device {
     // Some of the clocks left pass: whole slots where there are any, else a span.
     fn turn(self, memory: &mut [u8], latches: &mut [u8], left: u32) -> Progress
         requires { ⌜ Ready (self .core) (self .clocks) left ⌝ }
-        ensures { λ r. ⌜ Passed (systemOf self (now (memory .entry)) (now (latches .entry))) (systemOf (r .device) (now (memory .exit)) (now (latches .exit))) left (r .left) ⌝ }
+        ensures { λ r. ⌜ Passed flat (systemOf self (now (memory .entry)) (now (latches .entry))) (systemOf (r .device) (now (memory .exit)) (now (latches .exit))) left (r .left) ⌝ }
     {
         let core = self.core;
         let slots = slots::slots_within(core, left);
@@ -278,12 +246,12 @@ impl Device {
 
     // All the whole slots that the clocks left have room for.
     fn pass_slots(self, memory: &mut [u8], latches: &mut [u8], left: u32, slots: u32) -> Progress
-        requires { ⌜ Ready (self .core) (self .clocks) left × (0 < slots) × (slots ≡ slotsWithin (self .core) left) ⌝ }
+        requires { ⌜ Ready (self .core) (self .clocks) left × (slots ≡ slotsWithin (self .core) left) × (0 < slots) ⌝ }
         ensures { λ r. ⌜ (systemOf (r .device) (now (memory .exit)) (now (latches .exit)) ≡ slotsPassed flat slots (systemOf self (now (memory .entry)) (now (latches .entry)))) × (r .left ≡ left - slots * newSlot (self .core) .length) ⌝ }
     {
         let core = self.core;
         let counts = self.clocks;
-        let slot = clock::new_slot(core);
+        let slot = slot::new_slot(core);
         let spent = slots::clocks_of(slots, slot);
         let rest = left - (spent as u32);
         let counter = core.block.counter + slots;
@@ -307,11 +275,11 @@ impl Device {
     // The next span of the clocks left.
     fn pass_span(self, memory: &mut [u8], latches: &mut [u8], left: u32) -> Progress
         requires { ⌜ Ready (self .core) (self .clocks) left ⌝ }
-        ensures { λ r. ⌜ Passed (systemOf self (now (memory .entry)) (now (latches .entry))) (systemOf (r .device) (now (memory .exit)) (now (latches .exit))) left (r .left) ⌝ }
+        ensures { λ r. ⌜ Passed flat (systemOf self (now (memory .entry)) (now (latches .entry))) (systemOf (r .device) (now (memory .exit)) (now (latches .exit))) left (r .left) ⌝ }
     {
         let core = self.core;
         let counts = self.clocks;
-        let span = clock::next_span(core, left);
+        let span = span::next_span(core, left);
         let from = span.from;
         let to = span.to;
         transfer::move_if(span.moves, memory, latches, from, to);

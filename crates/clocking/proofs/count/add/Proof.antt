@@ -4,14 +4,11 @@ use borrow.Author.Needs.{needs}
 use Rattle.clocking.proofs.count.add.Statement.{statement}
 use Rattle.clocking.proofs.count.add.Tie as tie
 
-wide-requires : tie.Need-wide-requires
-wide-requires c κs = search needs
-
 add-all-requires : tie.Need-add-all-requires
 add-all-requires c κs = search needs
 
 returns : tie.Need-returns
-returns c = simp (c .before .wide .ensures, c .add-all .ensures)
+returns c = c .add-all .ensures
 
 pub add-spec : {M : Type 1} → statement M
-add-spec = tie.close (tie.spec wide-requires add-all-requires returns)
+add-spec = tie.close (tie.spec add-all-requires returns)

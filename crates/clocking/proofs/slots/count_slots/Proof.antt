@@ -1,6 +1,7 @@
 -- The bus time is counted first, then the wait.
 -- Assumes nothing.
-use Rattle.rules.specs.Choice.{pick}
+use Rattle.rules.specs.Clock.{busClock}
+use Rattle.rules.proofs.Spans.{kind-of-code}
 use borrow.Author.Needs.{needs}
 use Rattle.clocking.proofs.slots.count_slots.Statement.{statement}
 use Rattle.clocking.proofs.slots.count_slots.Tie as tie
@@ -24,8 +25,18 @@ add-all-requires-2 : tie.Need-add-all-requires-2
 add-all-requires-2 c κs = search needs
 
 returns : tie.Need-returns
-unfolding pick
-returns c = simp (← c .before .before .before .before .before .times .ensures, ← c .before .before .before .before .wait-of .ensures, ← c .before .before .before .times2 .ensures, ← c .before .before .wait-kind .ensures, c .before .add-all .ensures, c .add-all2 .ensures)
+returns c =
+    let at-kind = c .before .before in
+    simp (
+      c .add-all2 .ensures,
+      c .before .add-all .ensures,
+      at-kind .wait-kind .ensures,
+      at-kind .before .times2 .ensures,
+      at-kind .before .before .wait-of .ensures,
+      at-kind .before .before .before .times .ensures,
+      kind-of-code,
+      kind-of-code busClock,
+    )
 
 pub count-slots-spec : {M : Type 1} → statement M
 count-slots-spec =

@@ -4,8 +4,8 @@ use Prim.Native.Nat.{_-_}
 use native.Mathlib.Omega.{arith}
 use mathlib.Core.Path.{_≡_}
 use borrow.Author.Needs.{needs}
-use Rattle.rules.specs.WholeSlots.{stride}
-use Rattle.clocking.proofs.Carrying.{Carrying, carrying-start, carrying-more, carrying-end, carrying-lengths}
+use Rattle.rules.specs.Ports.{stride}
+use Rattle.clocking.proofs.WholeSlots.{Carrying, carrying-start, carrying-more, carrying-end, carrying-lengths}
 use Rattle.clocking.proofs.slots.move_bytes.Statement.{statement}
 use Rattle.clocking.proofs.slots.move_bytes.Tie as tie
 

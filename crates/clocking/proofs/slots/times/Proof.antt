@@ -1,7 +1,7 @@
 -- A number of 32 bits and one of 16 have a product within 64.
 -- Assumes nothing.
 use native.Mathlib.Omega.{arith}
-use Rattle.clocking.proofs.Spanning.{times-fit}
+use Rattle.clocking.proofs.WholeSlots.{times-fit}
 use borrow.Author.Needs.{needs}
 use Rattle.clocking.proofs.slots.times.Statement.{statement}
 use Rattle.clocking.proofs.slots.times.Tie as tie

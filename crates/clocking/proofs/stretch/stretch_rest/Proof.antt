@@ -13,15 +13,15 @@ slot-rest-requires c κs = search needs
 sub-bus : tie.Need-sub-bus
 sub-bus c = search needs
 
-wide-requires : tie.Need-wide-requires
-wide-requires c κs = search needs
+cast-moving : tie.Need-cast-moving
+cast-moving c = search needs
 
 least-requires : tie.Need-least-requires
 least-requires c κs = search needs
 
 returns : tie.Need-returns
 unfolding pick stretchRest
-returns c = simp (lt-ltb _ _ (c .before .before .before .if1 .taken), ← c .before .before .before .before .before .slot-rest .ensures, ← c .before .wide .ensures, ← c .least .ensures)
+returns c = simp (lt-ltb _ _ (c .before .before .if1 .taken), ← c .before .before .before .before .slot-rest .ensures, ← c .least .ensures)
 
 returns-2 : tie.Need-returns-2
 unfolding pick stretchRest
@@ -29,4 +29,4 @@ returns-2 c = simp (le-ltb _ _ (c .if1 .left), ← c .before .before .slot-rest 
 
 pub stretch-rest-spec : {M : Type 1} → statement M
 stretch-rest-spec =
-    tie.close (tie.spec slot-rest-requires sub-bus wide-requires least-requires returns returns-2)
+    tie.close (tie.spec slot-rest-requires sub-bus cast-moving least-requires returns returns-2)

@@ -1,6 +1,6 @@
 -- The test is that of a quiet wait, which ends within the slot's length.
 -- Assumes nothing.
-use Rattle.clocking.proofs.Spanning.{wait-fits, waits, waits-not}
+use Rattle.clocking.proofs.Stretches.{wait-fits, waits, waits-not}
 use borrow.Author.Needs.{needs}
 use Rattle.clocking.proofs.stretch.wait_within.Statement.{statement}
 use Rattle.clocking.proofs.stretch.wait_within.Tie as tie

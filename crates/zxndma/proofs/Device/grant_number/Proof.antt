@@ -1,3 +1,5 @@
+-- Each test that hits gives its number; behind the others the counts are those of a valid device, so that no sum wraps.
+-- Assumes nothing.
 use Rattle.zxndma.proofs.Refusing.{sum-refused, sum-accepted}
 use Rattle.rules.specs.Choice.{firstHit, pick}
 use Rattle.rules.specs.Refusals.{lentRefusal}
@@ -25,21 +27,33 @@ unfolding lentRefusal firstHit pick
 returns-3 c = simp (c .before .before .if1 .left, eq-eqb _ _ (c .before .if2 .left), ne-eqb _ _ (c .if3 .taken), ← c .before .before .before .is-valid .ensures)
 
 add-sum : tie.Need-add-sum
-add-sum c = omega (arith, valid-fits _ _ (sym (c .before .before .before .before .is-valid .ensures) ∙ not-false _ (c .before .before .before .if1 .left)))
+add-sum c =
+    let at-first = c .before .before .before in
+    omega (arith, valid-fits _ _ (sym (at-first .before .is-valid .ensures) ∙ not-false _ (at-first .if1 .left)))
 
 add-sum-2 : tie.Need-add-sum-2
-add-sum-2 c = omega (arith, valid-fits _ _ (sym (c .before .before .before .before .before .is-valid .ensures) ∙ not-false _ (c .before .before .before .before .if1 .left)))
+add-sum-2 c =
+    let at-first = c .before .before .before .before in
+    omega (arith, valid-fits _ _ (sym (at-first .before .is-valid .ensures) ∙ not-false _ (at-first .if1 .left)))
 
 sub-if4 : tie.Need-sub-if4
-sub-if4 c = omega (arith, valid-fits _ _ (sym (c .before .before .before .before .before .is-valid .ensures) ∙ not-false _ (c .before .before .before .before .if1 .left)))
+sub-if4 c =
+    let at-first = c .before .before .before .before in
+    omega (arith, valid-fits _ _ (sym (at-first .before .is-valid .ensures) ∙ not-false _ (at-first .if1 .left)))
 
 returns-4 : tie.Need-returns-4
-returns-4 c = let v = sym (c .before .before .before .before .before .before .is-valid .ensures) ∙ not-false _ (c .before .before .before .before .before .if1 .left) in
-    sum-refused _ _ _ _ _ v (c .before .before .before .before .if2 .left) (c .before .before .before .if3 .left) (omega (arith, valid-fits _ _ v))
+returns-4 c =
+    let at-third = c .before .before .before in
+    let at-first = at-third .before .before in
+    let v = sym (at-first .before .is-valid .ensures) ∙ not-false _ (at-first .if1 .left) in
+    sum-refused _ _ _ _ _ v (at-third .before .if2 .left) (at-third .if3 .left) (omega (arith, valid-fits _ _ v))
 
 returns-5 : tie.Need-returns-5
-returns-5 c = let v = sym (c .before .before .before .before .before .before .is-valid .ensures) ∙ not-false _ (c .before .before .before .before .before .if1 .left) in
-    sum-accepted _ _ _ _ _ v (c .before .before .before .before .if2 .left) (c .before .before .before .if3 .left) (omega (arith, valid-fits _ _ v))
+returns-5 c =
+    let at-third = c .before .before .before in
+    let at-first = at-third .before .before in
+    let v = sym (at-first .before .is-valid .ensures) ∙ not-false _ (at-first .if1 .left) in
+    sum-accepted _ _ _ _ _ v (at-third .before .if2 .left) (at-third .if3 .left) (omega (arith, valid-fits _ _ v))
 
 pub grant-number-spec : {M : Type 1} → statement M
 grant-number-spec =

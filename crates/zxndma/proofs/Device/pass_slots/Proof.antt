@@ -1,7 +1,8 @@
 -- The run is as many slots as the definition says, and its parts are put together as the definition puts them.
 -- Assumes nothing.
 use native.Mathlib.Omega.{arith}
-use Rattle.zxndma.proofs.Going.{slots-fit, slots-counter, slots-put, slots-left}
+use Rattle.rules.proofs.Turns.{ready-counter}
+use Rattle.zxndma.proofs.Turns.{slots-fit, slots-put, slots-left}
 use borrow.Author.Needs.{needs}
 use Rattle.zxndma.proofs.Device.pass_slots.Statement.{statement}
 use Rattle.zxndma.proofs.Device.pass_slots.Tie as tie
@@ -13,13 +14,19 @@ clocks-of-requires : tie.Need-clocks-of-requires
 clocks-of-requires c κs = search needs
 
 cast-rest : tie.Need-cast-rest
-cast-rest c = omega (arith, slots-fit (c .before .before .before .before .before .before .pre .0) (c .before .before .before .before .before .before .pre .1) (c .before .before .before .before .before .before .pre .2) (c .before .new-slot .ensures), c .clocks-of .ensures)
+cast-rest c =
+    let start = c .before .before .before .before .before .before .pre in
+    omega (arith, slots-fit (start .0) (start .1) (start .2) (c .before .new-slot .ensures) (c .clocks-of .ensures))
 
 sub-rest : tie.Need-sub-rest
-sub-rest c = omega (arith, slots-fit (c .before .before .before .before .before .before .pre .0) (c .before .before .before .before .before .before .pre .1) (c .before .before .before .before .before .before .pre .2) (c .before .new-slot .ensures), c .clocks-of .ensures)
+sub-rest c =
+    let start = c .before .before .before .before .before .before .pre in
+    slots-fit (start .0) (start .1) (start .2) (c .before .new-slot .ensures) (c .clocks-of .ensures)
 
 add-counter : tie.Need-add-counter
-add-counter c = omega (arith, slots-counter (c .before .before .before .before .before .before .before .pre .0) (c .before .before .before .before .before .before .before .pre .1) (c .before .before .before .before .before .before .before .pre .2))
+add-counter c =
+    let start = c .before .before .before .before .before .before .before .pre in
+    omega (arith, ready-counter (start .0) (start .1) (start .2))
 
 count-slots-requires : tie.Need-count-slots-requires
 count-slots-requires c κs = search needs
@@ -38,18 +45,25 @@ same-length-2 c = search needs
 
 returns : tie.Need-returns
 returns c =
-    let start = c .before .before .before .before .before .before .before .before .before .before .before .before .before .before .before .before .before .before .before .before .pre in
-    let args = c .before .before .before .before .before .before .before .before .before .before .before .before .before .before .before .before .before .before .before .before .args in
-    let slot = c .before .before .before .before .before .before .before .before .before .before .before .before .before .before .before .new-slot .ensures in (
+    let at-move = c .before .before .before .before .before .before .before .before .before in
+    let at-count = at-move .before .before .before in
+    let at-spent = at-count .before .before in
+    let at-slot = at-spent .before in
+    let first = at-slot .before .before .before .before .before in (
       slots-put
-          (start .0)
-          (start .1)
-          (start .2)
-          slot
-          (c .before .before .before .before .before .before .before .before .before .move-bytes .ensures)
+          (first .pre .0)
+          (first .pre .1)
+          (first .pre .2)
+          (at-slot .new-slot .ensures)
+          (at-move .move-bytes .ensures)
           (c .end-slot .ensures)
-          (c .before .before .before .before .before .before .before .before .before .before .before .before .count-slots .ensures),
-      slots-left (args .self .core) (args .left) (args .slots) slot (c .before .before .before .before .before .before .before .before .before .before .before .before .before .before .clocks-of .ensures),
+          (at-count .count-slots .ensures),
+      slots-left
+          (first .args .self .core)
+          (first .args .left)
+          (first .args .slots)
+          (at-slot .new-slot .ensures)
+          (at-spent .clocks-of .ensures),
     )
 
 pub pass-slots-spec : {M : Type 1} → statement M

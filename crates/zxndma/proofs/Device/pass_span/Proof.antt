@@ -1,6 +1,6 @@
 -- A span is its clocks.
 -- Assumes nothing.
-use Rattle.zxndma.proofs.Going.{span-left, span-passed}
+use Rattle.zxndma.proofs.Turns.{span-left, span-passed}
 use borrow.Author.Needs.{needs}
 use Rattle.zxndma.proofs.Device.pass_span.Statement.{statement}
 use Rattle.zxndma.proofs.Device.pass_span.Tie as tie
@@ -15,7 +15,9 @@ add-requires : tie.Need-add-requires
 add-requires c κs = search needs
 
 sub-t18 : tie.Need-sub-t18
-sub-t18 c = span-left (c .before .before .before .before .before .before .before .before .before .before .before .before .before .before .before .before .before .pre) (c .before .before .before .before .before .before .before .before .before .before .before .before .next-span .ensures .0)
+sub-t18 c =
+    let at-span = c .before .before .before .before .before .before .before .before .before .before .before .before in
+    span-left (at-span .before .before .before .before .before .pre) (at-span .next-span .ensures .0)
 
 same-length : tie.Need-same-length
 same-length c = search needs
@@ -25,10 +27,12 @@ same-length-2 c = search needs
 
 returns : tie.Need-returns
 returns c =
+    let at-move = c .before .before .before .before .before .before .before in
+    let at-span = at-move .before .before .before .before .before in
     span-passed
-    (c .before .before .before .before .before .before .before .before .before .before .before .before .before .before .before .before .before .pre)
-    (c .before .before .before .before .before .before .before .before .before .before .before .before .next-span .ensures .0)
-    (c .before .before .before .before .before .before .before .move-if .ensures)
+    (at-span .before .before .before .before .before .pre)
+    (at-span .next-span .ensures .0)
+    (at-move .move-if .ensures)
     (c .before .before .add .ensures)
 
 pub pass-span-spec : {M : Type 1} → statement M

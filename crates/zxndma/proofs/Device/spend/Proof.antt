@@ -1,7 +1,7 @@
 -- A disabled device's clocks, and those of a wait, are as many clocks of the definition; all others are `run`'s.
 -- Assumes nothing.
 use borrow.Author.Tests.{not-true, not-false}
-use Rattle.zxndma.proofs.Going.{idle-spent, wait-spent}
+use Rattle.zxndma.proofs.Turns.{idle-spent, wait-spent}
 use borrow.Author.Needs.{needs}
 use Rattle.zxndma.proofs.Device.spend.Statement.{statement}
 use Rattle.zxndma.proofs.Device.spend.Tie as tie

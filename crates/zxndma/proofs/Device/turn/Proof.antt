@@ -1,6 +1,6 @@
 -- Whole slots are as many clocks of the definition, and so is a span.
 -- Assumes nothing.
-use Rattle.zxndma.proofs.Going.{slots-passed}
+use Rattle.zxndma.proofs.Turns.{slots-passed}
 use borrow.Author.Needs.{needs}
 use Rattle.zxndma.proofs.Device.turn.Statement.{statement}
 use Rattle.zxndma.proofs.Device.turn.Tie as tie
@@ -19,12 +19,14 @@ same-length-2 c = search needs
 
 returns : tie.Need-returns
 returns c =
+    let at-slots = c .before .before .before .before in
+    let at-test = at-slots .before .before .before in
     slots-passed
-    (c .before .before .before .before .before .before .before .before .before .before .before .before .pre)
-    (c .before .before .before .before .before .before .before .if1 .taken)
-    (c .before .before .before .before .before .before .before .before .slots-within .ensures)
-    (c .before .before .before .before .pass-slots .ensures .0)
-    (c .before .before .before .before .pass-slots .ensures .1)
+    (at-test .before .before .before .before .before .pre)
+    (at-test .before .slots-within .ensures)
+    (at-test .if1 .taken)
+    (at-slots .pass-slots .ensures .0)
+    (at-slots .pass-slots .ensures .1)
 
 pass-span-requires : tie.Need-pass-span-requires
 pass-span-requires c κs = search needs

@@ -1,0 +1,99 @@
+// The span of clocks that a core answers.
+ghost use mathlib.Core.Path.{_≡_};
+ghost use mathlib.Core.Bool.{false};
+ghost use mathlib.Core.List.{[], _∷_};
+ghost use lib.Dec.{eqb};
+ghost use Rattle.rules.specs.Choice.{every};
+ghost use Rattle.rules.specs.Blocks.{finished};
+ghost use Rattle.rules.specs.Clock.{cpuClock};
+ghost use Rattle.rules.specs.Spans.{span, IsLongestSpan};
+ghost use Rattle.clocking.specs.Answers.{roomFor, MayRun};
+use crate::clock;
+use crate::place;
+use crate::stretch;
+use parts::block;
+use rules::Core;
+use rules::Span;
+
+// The clocks that a span may take of a budget.
+fn room_for(c: Core, budget: u32) -> u32
+    ensures { λ r. ⌜ r ≡ roomFor c budget ⌝ }
+{
+    if c.block.counter < 4294967295 {
+        if c.slot.elapsed < 65535 {
+            return budget;
+        }
+        return 0;
+    }
+    0
+}
+
+// Clocks of the processor, after which the core is `next`.
+fn cpu_span(clocks: u32, c: Core, next: Core) -> Span
+    ensures { λ r. ⌜ r ≡ span cpuClock clocks false c next ⌝ }
+{
+    let from = place::source_of(c);
+    let to = place::destination_of(c);
+    Span {
+        kind: rules::CPU,
+        clocks,
+        moves: false,
+        from,
+        to,
+        next,
+    }
+}
+
+// A slot would begin, and the block is finished.
+fn starts_finished(c: Core) -> bool
+    ensures { λ r. ⌜ r ≡ every (eqb (c .slot .elapsed) 0 ∷ finished (c .block) ∷ []) ⌝ }
+{
+    let b = c.block;
+    let done = block::is_finished(b);
+    (c.slot.elapsed == 0) & done
+}
+
+// The next span of a slot that runs or begins.
+fn slot_span(c: Core, budget: u32) -> Span
+    requires { ⌜ MayRun c budget ⌝ }
+    ensures { λ r. ⌜ IsLongestSpan c budget r ⌝ }
+{
+    let from = place::source_of(c);
+    let to = place::destination_of(c);
+    let slot = stretch::slot_of(c);
+    let rest = stretch::stretch_rest(slot);
+    let clocks = stretch::least(budget, rest);
+    let some = clocks as u16;
+    let last = c.slot.elapsed + some;
+    let mut running = c;
+    running.slot = slot;
+    let tick = clock::slot_clock(last, running);
+    let next = tick.next;
+    Span {
+        kind: tick.kind,
+        clocks,
+        moves: tick.moves,
+        from,
+        to,
+        next,
+    }
+}
+
+// The next span of a core's clocks within a budget, the longest within one slot: the rest of its bus time or of its wait,
+// or all clocks of a disabled device. Of a core whose counter or slot is at the end of its type, as no valid core's is, none.
+pub fn next_span(c: Core, budget: u32) -> Span
+    ensures { λ r. ⌜ IsLongestSpan c (roomFor c budget) r ⌝ }
+{
+    let room = room_for(c, budget);
+    if room == 0 {
+        return cpu_span(0, c, c);
+    }
+    if !c.enabled {
+        return cpu_span(room, c, c);
+    }
+    if starts_finished(c) {
+        let next = clock::stop(c);
+        return cpu_span(1, c, next);
+    }
+    slot_span(c, room)
+}
