@@ -66,13 +66,14 @@ module _ (s : State) (input : List ℕ) (fits : s .have ≤ length input) where
 -- ---- a turn
 
 -- what is handed on to be written
-pub are-lines : (s : State) (input output : List ℕ) (b : Buffers (List ℕ)) {w : Worked} {o m l : List ℕ} → left w o m l ≡ leftBy (gatheredIn s input output b) → AreLines s input o (w .filled)
-are-lines s input output b {w} {o} {m} {l} e = let
+pub are-lines : (s : State) (input output : List ℕ) (b : Buffers (List ℕ)) {w : Worked} {o m l : List ℕ} → left w o m l ≡ leftBy (gatheredIn s input output b) → length o ≡ length output → AreLines s input o (w .filled)
+are-lines s input output b {w} {o} {m} {l} e size = let
     g : Gathered = gatheredIn s input output b
     in
     record {
       before = output;
       buffers = b;
+      size = sym size;
       lines =
           subst (λ (x : Left). take (x .worked .filled) (x .output) ≡ g .lines) (sym e) (take-append-seam (g .lines) (g .unused));
       fits =
@@ -149,13 +150,13 @@ running-start memory latches e =
     (record { turns = none; most = omega arith; fits = omega arith })
 
 module _ {b : Buffers (List ℕ)} {input output memory latches : List ℕ} {s : State} {n : ℕ} (w : Running b input output memory latches s n) where
-  pub running-more : {input′ output′ memory′ latches′ : List ℕ} {r : State} → 0 < n → Turned s (gatheredIn s input output (borrowed memory latches)) input r input′ output′ (borrowed memory′ latches′) → Running b input′ output′ memory′ latches′ r (n - 1)
-  running-more {input′} {output′} {memory′} {latches′} {r} h t =
+  pub running-more : {input′ output′ memory′ latches′ : List ℕ} {r : State} → 0 < n → s .stopped ≡ false → Turned s (gatheredIn s input output (borrowed memory latches)) input r input′ output′ (borrowed memory′ latches′) → Running b input′ output′ memory′ latches′ r (n - 1)
+  running-more {input′} {output′} {memory′} {latches′} {r} h goes t =
       record {
         turns =
             subst (λ (k : ℕ). Turns k (holdsAtStart b) (record { state = r; input = input′; output = output′; buffers = borrowed memory′ latches′ }))
             (let e : mostTurns - n + 1 ≡ mostTurns - (n - 1) = omega (arith, w .most) in e)
-            (more (w .turns) t);
+            (more (w .turns) goes t);
         most = omega (arith, w .most);
         fits = t .fits;
       }

@@ -15,11 +15,12 @@ use Rattle.bench.specs.Buffered.{atHand, notTaken}
 use Rattle.bench.specs.Working.{Gathered, gatheredIn}
 use Rattle.bench.specs.declared.State.{State}
 
--- the front of the output buffer, up to `filled`, are the lines of the steps from where the program is, whatever memory,
--- latches and the output buffer held before them
+-- the front of the output buffer, up to `filled`, are the lines of all the steps from where the program is, with an output
+-- buffer of this length, whatever it held before them, and whatever memory and latches held
 pub record AreLines (s : State) (input output : List ℕ) (filled : ℕ) : Type 0 where
   pub before : List ℕ
   pub buffers : Buffers (List ℕ)
+  pub size : length before ≡ length output
   pub lines : take filled output ≡ gatheredIn s input before buffers .lines
   pub fits : filled ≤ length output
 
@@ -91,10 +92,10 @@ abbrev pub Turn : Holds → Holds → Type 0
 Turn x y =
     Turned (x .state) (gatheredIn (x .state) (x .input) (x .output) (x .buffers)) (x .input) (y .state) (y .input) (y .output) (y .buffers)
 
--- so many turns, each from where the one before ended
+-- so many turns, each from where the one before ended and did not stop
 pub data Turns : ℕ → Holds → Holds → Type 0 where
   none : {x : Holds} → Turns 0 x x
-  more : {n : ℕ} {x y z : Holds} → Turns n x y → Turn y z → Turns (n + 1) x z
+  more : {n : ℕ} {x y z : Holds} → Turns n x y → y .state .stopped ≡ false → Turn y z → Turns (n + 1) x z
 
 -- more turns than the program's count has room for are not made
 abbrev pub mostTurns : ℕ

@@ -3,7 +3,7 @@
 use native.Mathlib.Omega.{arith}
 use mathlib.Core.Path.{_≡_, refl, _∙_}
 use borrow.Author.Needs.{needs}
-use borrow.Author.Tests.{not-false}
+use borrow.Author.Tests.{not-false, not-true}
 use lib.ListN.{length}
 use Rattle.clocking.specs.Answers.{borrowed}
 use Rattle.bench.proofs.Turning.{Running, running-start, running-more, running-end}
@@ -47,7 +47,7 @@ loop-again c = let
     in
     let inv = c .before .before .before .before .before .before .before .before .before .before .before .before .before .before .before .before .loop .inv in
     let k = turn .kept .1 .1 .1 in
-    (k .0 ∙ inv .0, k .1 .0 ∙ inv .1, running-more (inv .2) (c .before .before .before .before .before .before .before .before .before .before .before .before .before .before .before .loop-test .taken) (turn .ensures))
+    (k .0 ∙ inv .0, k .1 .0 ∙ inv .1, running-more (inv .2) (c .before .before .before .before .before .before .before .before .before .before .before .before .before .before .before .loop-test .taken) (not-true _ (c .before .before .before .before .before .before .before .before .before .before .before .before .before .if1 .taken)) (turn .ensures))
 
 same-length : tie.Need-same-length Inv-loop μ-loop
 same-length c = search needs

@@ -13,7 +13,8 @@ flush-requires : tie.Need-flush-requires
 flush-requires c κs = let
     a = c .before .before .before .before .before .before .before .before .before .before .before .before .before .before .before .before .before .args
     in
-    are-lines (a .state) (a .input .now) (a .output .now) (borrowed (a .memory .now) (a .latches .now)) (c .before .before .before .before .before .before .before .before .work .ensures)
+    let work = c .before .before .before .before .before .before .before .before .work in
+    are-lines (a .state) (a .input .now) (a .output .now) (borrowed (a .memory .now) (a .latches .now)) (work .ensures) (work .kept .1 .1 .0)
 
 same-length : tie.Need-same-length
 same-length c = search needs
