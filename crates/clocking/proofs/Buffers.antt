@@ -12,7 +12,7 @@ use Rattle.rules.specs.WholeSlots.{movedBy, transferred}
 use Rattle.rules.specs.declared.Place.{Place}
 use Rattle.rules.specs.declared.Core.{Core}
 use Rattle.rules.proofs.Choice.{pick-true, pick-false, pick-both}
-use Rattle.rules.proofs.Counting.{clocked-zero, clocked-suc}
+use Rattle.rules.proofs.Counting.{clocked-keeps}
 use Rattle.clocking.specs.Answers.{borrowed}
 
 module _ (m l : List ℕ) (from to : Place) {byte : ℕ} (e : byte ≡ byteAt flat from (borrowed m l)) where
@@ -51,9 +51,7 @@ transferred-lengths (suc k) c b = then (put-lengths (destination (movedBy k c)) 
 
 pub clocked-lengths : (n : ℕ) (s : System (List ℕ)) → AsLong (clocked flat n s .world .buffers) (s .world .buffers)
 unfolding buffersAfter
-clocked-lengths zero s = rw (clocked-zero flat s) (as-long (s .world .buffers))
-clocked-lengths (suc n) s =
-    rw (clocked-suc flat n s)
-    (then
-    (pick-both (λ (x : Buffers (List ℕ)). AsLong x (clocked flat n s .world .buffers)) (clockOf (clocked flat n s .world .core) .moves) _ _ (put-lengths _ _ _) (as-long _))
-    (clocked-lengths n s))
+clocked-lengths n s =
+    clocked-keeps flat (λ (t : System (List ℕ)). AsLong (t .world .buffers) (s .world .buffers))
+    (λ t h. then (pick-both (λ (x : Buffers (List ℕ)). AsLong x (t .world .buffers)) (clockOf (t .world .core) .moves) _ _ (put-lengths _ _ _) (as-long _)) h)
+    n s (as-long (s .world .buffers))

@@ -5,6 +5,7 @@ use native.Mathlib.Omega.{arith}
 use mathlib.Core.Path.{_≡_, refl, sym, _∙_}
 use mathlib.Core.Bool.{Bool, true, false, _&&_, _||_, not}
 use mathlib.Core.List.{List, [], _∷_}
+use borrow.Author.Tests.{not-true, not-false}
 use Rattle.rules.specs.Choice.{pick, every, any, means}
 
 -- true is not false
@@ -41,6 +42,13 @@ pub not-of-false : (t : Bool) → t ≡ false → not t ≡ true
 not-of-false true e = clash (sym e)
 not-of-false false e = refl
 
+-- a test that code found to hold, or to fail, holds or fails as defined
+pub holds : {s t : Bool} → s ≡ t → not s ≡ false → t ≡ true
+holds {s} e h = sym e ∙ not-false s h
+
+pub fails : {s t : Bool} → s ≡ t → not s ≡ true → t ≡ false
+fails {s} e h = sym e ∙ not-true s h
+
 -- a test is true or false
 pub either {ℓ} : {X : Type ℓ} (t : Bool) → (t ≡ true → X) → (t ≡ false → X) → X
 either true f g = f refl
@@ -48,21 +56,21 @@ either false f g = g refl
 
 -- ---- every test holds
 
-pub every-first : (t : Bool) (ts : List Bool) → every (t ∷ ts) ≡ true → t ≡ true
+every-first : (t : Bool) (ts : List Bool) → every (t ∷ ts) ≡ true → t ≡ true
 unfolding every pick
 every-first true ts e = refl
 every-first false ts e = clash e
 
-pub every-more : (t : Bool) (ts : List Bool) → every (t ∷ ts) ≡ true → every ts ≡ true
+every-more : (t : Bool) (ts : List Bool) → every (t ∷ ts) ≡ true → every ts ≡ true
 unfolding every pick
 every-more true ts e = e
 every-more false ts e = clash e
 
-pub every-none : every [] ≡ true
+every-none : every [] ≡ true
 unfolding every
 every-none = refl
 
-pub every-one-more : (t : Bool) (ts : List Bool) → t ≡ true → every ts ≡ true → every (t ∷ ts) ≡ true
+every-one-more : (t : Bool) (ts : List Bool) → t ≡ true → every ts ≡ true → every (t ∷ ts) ≡ true
 unfolding every pick
 every-one-more true ts d e = e
 every-one-more false ts d e = clash d

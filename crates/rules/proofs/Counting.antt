@@ -1,9 +1,10 @@
--- n clocks: clocks of m + n are n after m, each is counted once, and a valid core stays valid throughout.
+-- n clocks, by induction on n: clocks of m + n are n after m, each is counted once, and what each keeps they keep, validity
+-- among it.
 -- Assumes nothing.
 use Prim.Native.Nat.{ℕ, zero, suc, _+_}
 use native.Mathlib.Omega.{arith}
 use native.Mathlib.Nat.{add-zero, add-suc}
-use mathlib.Core.Path.{_≡_, refl, sym, _∙_, ap}
+use mathlib.Core.Path.{_≡_, refl, sym, _∙_, ap, subst}
 use Rattle.rules.specs.Validity.{total}
 use Rattle.rules.specs.Facts.{Kept}
 use Rattle.rules.specs.Clock.{Kind, busClock, heldClock, cpuClock, countedBy, clockOf}
@@ -44,7 +45,11 @@ module _ {M : Type 0} (σ : Store M) where
       ∙ total-counted (clockOf (clocked σ n s .world .core) .kind) 1 (clocked σ n s .clocks)
       ∙ (let h = clocked-total n s in omega arith)
 
-  -- n clocks keep a valid core valid
+  -- what each clock keeps, n clocks keep
+  pub clocked-keeps : (P : System M → Type 0) → ((t : System M) → P t → P (stepCounted σ t)) → (n : ℕ) (s : System M) → P s → P (clocked σ n s)
+  clocked-keeps P f zero s p = subst P (sym (clocked-zero s)) p
+  clocked-keeps P f (suc n) s p = subst P (sym (clocked-suc n s)) (f (clocked σ n s) (clocked-keeps P f n s p))
+
+  -- a valid core stays valid
   pub clocked-kept : (n : ℕ) (s : System M) → Kept (s .world .core) → Kept (clocked σ n s .world .core)
-  clocked-kept zero s k = rw clocked-zero k
-  clocked-kept (suc n) s k = rw (clocked-suc n s) (clock-kept _ (clocked-kept n s k))
+  clocked-kept = clocked-keeps (λ (t : System M). Kept (t .world .core)) (λ t k. clock-kept (t .world .core) k)

@@ -54,7 +54,7 @@ good-reset p g = record { cycle = omega arith; range = omega arith }
 pub good-loaded : (p : Port) → GoodPort p → GoodPort (loaded p)
 good-loaded p g = record { cycle = omega arith; range = omega arith }
 
-pub stepped-fits : (step pointer : ℕ) → pointer < 65536 → stepped step pointer < 65536
+stepped-fits : (step pointer : ℕ) → pointer < 65536 → stepped step pointer < 65536
 unfolding stepped
 stepped-fits step pointer h =
     pick-both (λ n. n < 65536) _ _ _ (omega arith) (pick-both (λ n. n < 65536) _ _ _ (omega arith) h)

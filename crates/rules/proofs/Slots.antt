@@ -18,7 +18,7 @@ pub record Waiting (s : Slot) : Type 0 where
   pub past : s .bus ≤ s .elapsed
   pub below : s .elapsed < s .length
 
-pub waiting-facts : (s : Slot) → waiting s ≡ true → Waiting s
+waiting-facts : (s : Slot) → waiting s ≡ true → Waiting s
 unfolding waiting
 waiting-facts s e =
     let h = all-true _ e in

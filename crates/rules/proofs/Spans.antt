@@ -5,13 +5,13 @@ use Prim.Native.Nat.{ℕ, zero, suc, _+_, _≤_, _<_}
 use native.Mathlib.Omega.{arith}
 use native.Mathlib.Nat.{add-zero, add-assoc, le-refl}
 use native.Mathlib.Numerals.{add-one}
-use mathlib.Core.Path.{_≡_, refl, sym, _∙_, ap, subst}
-use mathlib.Core.Bool.{Bool, false}
+use mathlib.Core.Path.{_≡_, refl, sym, _∙_, ap}
+use mathlib.Core.Bool.{false}
 use Rattle.rules.specs.Choice.{pick}
 use Rattle.rules.specs.Clock.{Kind, busClock, heldClock, cpuClock, countedBy, counted, clockOf}
 use Rattle.rules.specs.Buffers.{Store, Buffers, source, destination}
 use Rattle.rules.specs.World.{System, system, buffersAfter, clocked}
-use Rattle.rules.specs.Spans.{kindCode, kindOf, ticks, span, IsSpan, IsLongest, IsLongestSpan, spanPassed, SpansAreClocks, SpansSettled}
+use Rattle.rules.specs.Spans.{kindCode, kindOf, ticks, span, IsSpan, IsLongestSpan, spanPassed, SpansAreClocks, SpansSettled}
 use Rattle.rules.specs.declared.Clocks.{Clocks}
 use Rattle.rules.specs.declared.Core.{Core}
 use Rattle.rules.specs.declared.Span.{Span}

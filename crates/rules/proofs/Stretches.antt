@@ -10,13 +10,13 @@ use mathlib.Core.List.{[], _∷_}
 use mathlib.Core.Option.{none}
 use lib.Dec.{eqb, leb, ltb}
 use borrow.Author.Tests.{eq-eqb, ne-eqb, le-leb, lt-leb, lt-ltb, le-ltb, eqb-true, eqb-false, ltb-true, ltb-false, leb-true}
-use Rattle.rules.specs.Choice.{pick, every, any}
+use Rattle.rules.specs.Choice.{pick, any}
 use Rattle.rules.specs.Parts.{withSlot}
 use Rattle.rules.specs.Blocks.{finished}
 use Rattle.rules.specs.Clock.{Kind, busClock, cpuClock, countedBy, Clock, Ending, clock, newSlot, moved, withElapsed, stopped, movesAt, movedAt, waitKind, kindAt, slotEnd, clockEnd, slotClock, firstClock, clockOf}
 use Rattle.rules.specs.Buffers.{Store, Buffers, source, destination}
 use Rattle.rules.specs.World.{system, buffersAfter, clocked}
-use Rattle.rules.specs.Spans.{kindCode, ticks, span, IsSpan, endsSlot, IsLongest, IsLongestSpan}
+use Rattle.rules.specs.Spans.{kindCode, ticks, span, IsSpan, endsSlot, IsLongest}
 use Rattle.rules.specs.Stretches.{least, slotOf, begun, slotRest, stretchRest, quiet, elapsedBy, WaitsAreClocks}
 use Rattle.rules.specs.declared.Place.{Place}
 use Rattle.rules.specs.declared.Slot.{Slot}
@@ -29,14 +29,14 @@ use Rattle.rules.proofs.Spans.{kind-of-code, ticks-zero, ticks-suc, spa
 -- ---- a slot's n-th clock
 
 -- how many clocks of the slot have elapsed is no matter to its n-th clock
-pub slot-clock-elapsed : (n m : ℕ) (c : Core) → slotClock n (withElapsed m c) ≡ slotClock n c
+slot-clock-elapsed : (n m : ℕ) (c : Core) → slotClock n (withElapsed m c) ≡ slotClock n c
 unfolding slotClock movedAt kindAt clockEnd slotEnd
 slot-clock-elapsed n m c =
     ap (λ (d : Core). clock (kindAt n c) (movesAt n c) (clockEnd n d .zeroed) (clockEnd n d .core))
     (sym (pick-ap (withElapsed m) (movesAt n c) (moved c) c))
 
 -- a clock that neither moves a byte nor ends the slot
-pub plain-next : (n : ℕ) (c : Core) → (n ≡ c .slot .bus → ⊥) → n < c .slot .length → slotClock n c .next ≡ withElapsed n c
+plain-next : (n : ℕ) (c : Core) → (n ≡ c .slot .bus → ⊥) → n < c .slot .length → slotClock n c .next ≡ withElapsed n c
 unfolding slotClock movedAt clockEnd
 plain-next n c b h =
     ap (λ (d : Core). clockEnd n d .core) (pick-false _ _ _ (ne-eqb n (c .slot .bus) b))
@@ -77,7 +77,7 @@ pub record Runs (c d : Core) : Type 0 where
   pub destination : destination c ≡ destination d
 
 -- the core of an enabled device runs: at the start of a slot its block is not finished
-pub runs-begun : (c : Core) → c .enabled ≡ true → (c .slot .elapsed ≡ 0 → finished (c .block) ≡ false) → Runs c (begun c)
+runs-begun : (c : Core) → c .enabled ≡ true → (c .slot .elapsed ≡ 0 → finished (c .block) ≡ false) → Runs c (begun c)
 unfolding slotOf source destination
 runs-begun c on u =
     record {
@@ -186,7 +186,7 @@ module _ {c d : Core} (r : Runs c d) {n : ℕ} (w : Within (c .slot .elapsed) n 
       }
 
   -- it is the longest where it ends with the budget, the move or the slot
-  pub stretch-longest : (budget : ℕ) → (n < budget → any (movesAt (c .slot .elapsed + n) d ∷ leb (d .slot .length) (c .slot .elapsed + n) ∷ []) ≡ true) → IsLongest c budget (stretch c d n)
+  stretch-longest : (budget : ℕ) → (n < budget → any (movesAt (c .slot .elapsed + n) d ∷ leb (d .slot .length) (c .slot .elapsed + n) ∷ []) ≡ true) → IsLongest c budget (stretch c d n)
   stretch-longest budget h =
       record {
         inside = λ i l. every-stop-later _ _ (every-stop _ _ (ap (λ (x : Core). eqb (x .slot .elapsed) 0) (sym (ticks-suc i c) ∙ run-next i l (run-clock i (omega arith))) ∙ ne-eqb (c .slot .elapsed + i + 1) 0 (λ e. omega arith)));
@@ -302,7 +302,7 @@ module _ (c : Core) (on : c .enabled ≡ true) (fresh : c .slot .elapsed ≡ 0 �
   within-slot n h = subst (λ (e : ℕ). Within e n (slotOf c)) (slot-elapsed c) (rest-facts (slotOf c) .within n h)
 
   module _ {budget n : ℕ} (l : Least budget (stretchRest (slotOf c)) n) (some : 0 < budget) where
-    pub next-some : 0 < n
+    next-some : 0 < n
     next-some = positive (l .first) (l .one) (rest-facts (slotOf c) .some) some
 
     pub next-span : IsSpan c budget (stretch c (begun c) n)

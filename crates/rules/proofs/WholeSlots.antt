@@ -1,12 +1,12 @@
 -- Whole slots are as many clocks of the definition: first one, its bus time and then its wait; then k of them, by induction,
 -- since below the block's end a slot begins as the last one did; then the run that a budget has room for.
 -- Assumes nothing.
-use Prim.Native.Nat.{ℕ, zero, suc, _+_, _*_, _-_, _/_, _%_, _≤_, _<_}
+use Prim.Native.Nat.{ℕ, zero, suc, _+_, _*_, _-_, _/_, _≤_, _<_}
 use native.Mathlib.Omega.{arith}
 use native.Mathlib.Nat.{add-assoc, suc-mul, one-mul, le-refl, div-mul-le-self, mul-le-mul-right, le-trans}
 use mathlib.Core.Path.{_≡_, refl, sym, _∙_, ap}
 use mathlib.Core.Bool.{Bool, true, false}
-use lib.Dec.{eqb, ltb}
+use lib.Dec.{ltb}
 use borrow.Author.Tests.{eq-eqb, ne-eqb, le-leb, lt-leb, lt-ltb, le-ltb, ltb-true, ltb-false, eqb-true, leb-false, not-true}
 use Rattle.rules.specs.Choice.{pick}
 use Rattle.rules.specs.Parts.{withCounter, withBlock, withSlot}
@@ -21,7 +21,7 @@ use Rattle.rules.specs.WholeSlots.{movedBy, slotsCounted, transferred, s
 use Rattle.rules.specs.declared.Slot.{Slot}
 use Rattle.rules.specs.declared.Clocks.{Clocks}
 use Rattle.rules.specs.declared.Core.{Core}
-use Rattle.rules.proofs.Choice.{pick-true, pick-false, pick-cases, pick-both, either, all-true}
+use Rattle.rules.proofs.Choice.{pick-true, pick-false, pick-cases, either, all-true}
 use Rattle.rules.proofs.Slots.{unmoved-first}
 use Rattle.rules.proofs.Validity.{progress-facts}
 use Rattle.rules.proofs.Steady.{kept-steady, kept-slot}
@@ -165,7 +165,7 @@ module _ {M : Type 0} (σ : Store M) (c : Core) (b : Buffers M) (k : Clocks) (t 
           ∙ ap (λ (n : ℕ). countedBy (waitKind (c .control .burst)) n used) (let z : 0 ≡ wait = omega arith in z)
 
   -- one slot: its length in clocks moves one byte
-  pub slot-clocked : clocked σ (newSlot c .length) (system c b k) ≡ system (slotEnd (moved c) .core) (transfer σ (source c) (destination c) b) (slotsCounted 1 (newSlot c) k)
+  slot-clocked : clocked σ (newSlot c .length) (system c b k) ≡ system (slotEnd (moved c) .core) (transfer σ (source c) (destination c) b) (slotsCounted 1 (newSlot c) k)
   slot-clocked =
       either (ltb (newSlot c .bus) (newSlot c .length))
       (λ e. slot-waits (ltb-true (newSlot c .bus) (newSlot c .length) e))
@@ -203,7 +203,7 @@ module _ {M : Type 0} (σ : Store M) (c : Core) (b : Buffers M) (k : Clocks) (t 
   unfolding slotEnd
   end-below j h = ap (λ (x : Ending). x .core) (pick-false _ _ _ (below j h)) ∙ (λ i. withSlot (sym rest i) (movedBy j c))
 
-  pub slots-clocked : (j : ℕ) → c .block .counter + suc j ≤ blockCount (c .block) → clocked σ (suc j * newSlot c .length) (system c b k) ≡ slotsPassed σ (suc j) (system c b k)
+  slots-clocked : (j : ℕ) → c .block .counter + suc j ≤ blockCount (c .block) → clocked σ (suc j * newSlot c .length) (system c b k) ≡ slotsPassed σ (suc j) (system c b k)
   unfolding transferred source destination steppedBy
   slots-clocked zero h =
       ap (λ (n : ℕ). clocked σ n (system c b k)) (one-mul (newSlot c .length))

@@ -1,3 +1,5 @@
+-- Both ports are advanced, and the counter has room for one more.
+-- Assumes nothing.
 use borrow.Author.Needs.{needs}
 use Rattle.clocking.proofs.clock.byte_moved.Statement.{statement}
 use Rattle.clocking.proofs.clock.byte_moved.Tie as tie

@@ -1,3 +1,5 @@
+-- Each branch is its choice.
+-- Assumes nothing.
 use Rattle.rules.specs.Choice.{pick}
 use Rattle.rules.specs.Clock.{clockEnd}
 use borrow.Author.Tests.{lt-ltb, le-ltb}

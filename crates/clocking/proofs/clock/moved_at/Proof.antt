@@ -1,3 +1,5 @@
+-- Each branch is its choice.
+-- Assumes nothing.
 use Rattle.rules.specs.Choice.{pick}
 use Rattle.rules.specs.Clock.{movedAt}
 use borrow.Author.Tests.{eq-eqb, ne-eqb}

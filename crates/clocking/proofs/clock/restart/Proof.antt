@@ -1,3 +1,5 @@
+-- The steps are those of the definition, one after the other.
+-- Assumes nothing.
 use borrow.Author.Needs.{needs}
 use Rattle.clocking.proofs.clock.restart.Statement.{statement}
 use Rattle.clocking.proofs.clock.restart.Tie as tie

@@ -1,3 +1,5 @@
+-- The strict test is the list of tests.
+-- Assumes nothing.
 use Rattle.rules.proofs.Choice.{strict}
 use borrow.Author.Needs.{needs}
 use Rattle.clocking.proofs.clock.restarts.Statement.{statement}

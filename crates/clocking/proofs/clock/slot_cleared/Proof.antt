@@ -1,3 +1,5 @@
+-- The slot put in is the one of which no clock has elapsed.
+-- Assumes nothing.
 use borrow.Author.Needs.{needs}
 use Rattle.clocking.proofs.clock.slot_cleared.Statement.{statement}
 use Rattle.clocking.proofs.clock.slot_cleared.Tie as tie

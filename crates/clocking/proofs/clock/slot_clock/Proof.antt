@@ -1,3 +1,5 @@
+-- Kind, move and end are those of the definition.
+-- Assumes nothing.
 use Rattle.rules.specs.Clock.{slotClock}
 use borrow.Author.Needs.{needs}
 use Rattle.clocking.proofs.clock.slot_clock.Statement.{statement}

@@ -40,22 +40,28 @@ go-on-requires-2 : tie.Need-go-on-requires-2 Inv-loop μ-loop
 go-on-requires-2 c κs = search needs
 
 add-i : tie.Need-add-i Inv-loop μ-loop
-add-i c = omega (arith, c .before .before .before .before .before .before .before .before .before .before .before .loop-test .taken, c .before .before .before .before .before .before .before .before .before .before .before .before .loop .inv .0 .most)
+add-i c =
+    let at-test = c .before .before .before .before .before .before .before .before .before .before .before in
+    omega (arith, at-test .loop-test .taken, at-test .before .loop .inv .0 .most)
 
 loop-less : tie.Need-loop-less Inv-loop μ-loop
 loop-less c = omega arith
 
 loop-again : tie.Need-loop-again Inv-loop μ-loop
 loop-again c =
-    let inv = c .before .before .before .before .before .before .before .before .before .before .before .before .loop .inv in (
+    let at-move = c .before .before .before .before .before .before in
+    let at-to = at-move .before .before .before in
+    let at-from = at-to .before in
+    let at-test = at-from .before in
+    let inv = at-test .before .loop .inv in (
       carrying-more
           (inv .0)
-          (c .before .before .before .before .before .before .before .before .before .before .before .loop-test .taken)
+          (at-test .loop-test .taken)
           (inv .1)
           (inv .2)
-          (c .before .before .before .before .before .before .before .before .before .before .place-in .ensures)
-          (c .before .before .before .before .before .before .before .before .before .place-in2 .ensures)
-          (c .before .before .before .before .before .before .move-byte .ensures)
+          (at-from .place-in .ensures)
+          (at-to .place-in2 .ensures)
+          (at-move .move-byte .ensures)
           (c .before .go-on .ensures)
           (c .go-on2 .ensures),
       inv .1,

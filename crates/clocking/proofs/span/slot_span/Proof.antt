@@ -23,7 +23,9 @@ least-requires : tie.Need-least-requires
 least-requires c κs = search needs
 
 cast-some : tie.Need-cast-some
-cast-some c = omega (arith, last-fits (c .before .before .before .before .before .pre) (c .before .before .slot-of .ensures) (c .before .stretch-rest .ensures) (c .least .ensures) (search needs))
+cast-some c =
+    let at-slot = c .before .before in
+    omega (arith, last-fits (at-slot .before .before .before .pre) (at-slot .slot-of .ensures) (c .before .stretch-rest .ensures) (c .least .ensures) (search needs))
 
 add-last : tie.Need-add-last
 add-last c = omega (arith, last-fits (c .before .before .before .before .before .before .pre) (c .before .before .before .slot-of .ensures) (c .before .before .stretch-rest .ensures) (c .before .least .ensures) (search needs))
@@ -33,15 +35,19 @@ slot-clock-requires c κs = search needs
 
 returns : tie.Need-returns
 returns c =
+    let at-least = c .before .before .before in
+    let at-slot = at-least .before .before in
+    let at-to = at-slot .before in
+    let at-from = at-to .before in
     slot-answers
-    (c .before .before .before .before .before .before .before .before .pre)
-    (c .before .before .before .before .before .slot-of .ensures)
-    (c .before .before .before .before .stretch-rest .ensures)
-    (c .before .before .before .least .ensures)
+    (at-from .before .pre)
+    (at-slot .slot-of .ensures)
+    (at-least .before .stretch-rest .ensures)
+    (at-least .least .ensures)
     refl
     (c .before .slot-clock .ensures)
-    (c .before .before .before .before .before .before .before .source-of .ensures)
-    (c .before .before .before .before .before .before .destination-of .ensures)
+    (at-from .source-of .ensures)
+    (at-to .destination-of .ensures)
 
 pub slot-span-spec : {M : Type 1} → statement M
 slot-span-spec =

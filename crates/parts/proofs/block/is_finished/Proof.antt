@@ -1,3 +1,5 @@
+-- The test is over the count that the definition gives.
+-- Assumes nothing.
 use Rattle.rules.specs.Blocks.{finished}
 use borrow.Author.Needs.{needs}
 use Rattle.parts.proofs.block.is_finished.Statement.{statement}

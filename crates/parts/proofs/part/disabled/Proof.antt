@@ -1,3 +1,5 @@
+-- The slot put in is the one of which no clock has elapsed.
+-- Assumes nothing.
 use borrow.Author.Needs.{needs}
 use Rattle.parts.proofs.part.disabled.Statement.{statement}
 use Rattle.parts.proofs.part.disabled.Tie as tie

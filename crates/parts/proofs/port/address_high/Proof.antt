@@ -1,3 +1,5 @@
+-- The address is the one with its high byte replaced.
+-- Assumes nothing.
 use borrow.Author.Needs.{needs}
 use Rattle.parts.proofs.port.address_high.Statement.{statement}
 use Rattle.parts.proofs.port.address_high.Tie as tie

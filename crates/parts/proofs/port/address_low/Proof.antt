@@ -1,3 +1,5 @@
+-- The address is the one with its low byte replaced.
+-- Assumes nothing.
 use borrow.Author.Needs.{needs}
 use Rattle.parts.proofs.port.address_low.Statement.{statement}
 use Rattle.parts.proofs.port.address_low.Tie as tie

@@ -1,3 +1,5 @@
+-- The pointer is the stepped one.
+-- Assumes nothing.
 use borrow.Author.Needs.{needs}
 use Rattle.parts.proofs.port.advance.Statement.{statement}
 use Rattle.parts.proofs.port.advance.Tie as tie

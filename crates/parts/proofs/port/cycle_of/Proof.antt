@@ -1,3 +1,5 @@
+-- Each branch is its choice.
+-- Assumes nothing.
 use borrow.Author.Tests.{eq-eqb, ne-eqb}
 use Rattle.rules.specs.Choice.{pick}
 use Rattle.rules.specs.Ports.{cycleOf}

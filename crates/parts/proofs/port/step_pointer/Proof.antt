@@ -1,3 +1,5 @@
+-- Each branch is its choice; a wrapping step is one modulo 65,536.
+-- Assumes nothing.
 use Rattle.rules.specs.Choice.{pick}
 use Rattle.rules.specs.Ports.{stepped}
 use borrow.Author.Tests.{eq-eqb, ne-eqb}

@@ -1,3 +1,5 @@
+-- The cycle is the one that the byte asks for.
+-- Assumes nothing.
 use borrow.Author.Needs.{needs}
 use Rattle.parts.proofs.port.time.Statement.{statement}
 use Rattle.parts.proofs.port.time.Tie as tie

@@ -1,3 +1,5 @@
+-- Each test that hits gives its number, in the order of the list.
+-- Assumes nothing.
 use Rattle.rules.specs.Choice.{firstHit, pick}
 use Rattle.rules.specs.Refusals.{accessRefusal}
 use borrow.Author.Needs.{needs}

@@ -1,3 +1,5 @@
+-- The strict test is the list of tests.
+-- Assumes nothing.
 use Rattle.rules.proofs.Choice.{strict}
 use Rattle.parts.proofs.refusal.is_wrong_port.Statement.{statement}
 use Rattle.parts.proofs.refusal.is_wrong_port.Tie as tie

@@ -1,3 +1,5 @@
+-- The strict test is the list of tests.
+-- Assumes nothing.
 use Rattle.rules.proofs.Choice.{strict}
 use Rattle.rules.specs.Slots.{waiting}
 use Rattle.parts.proofs.slot.is_waiting.Statement.{statement}

@@ -1,3 +1,5 @@
+-- Where a part of the sum would wrap the sum does not fit; else the code has compared all of it.
+-- Assumes nothing.
 use borrow.Author.Tests.{lt-leb, le-leb}
 use Rattle.rules.specs.Validity.{total, most64}
 use native.Mathlib.Omega.{arith}

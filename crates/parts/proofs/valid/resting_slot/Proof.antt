@@ -1,3 +1,5 @@
+-- The strict test is the list of tests.
+-- Assumes nothing.
 use Rattle.rules.proofs.Choice.{strict}
 use Rattle.rules.specs.Validity.{restingSlot}
 use Rattle.parts.proofs.valid.resting_slot.Statement.{statement}

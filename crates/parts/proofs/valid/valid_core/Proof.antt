@@ -1,10 +1,10 @@
 -- A test that fails settles the list of tests; where the others hold the last one does.
 -- Assumes nothing.
 use mathlib.Core.Path.{sym, _∙_}
-use borrow.Author.Tests.{lt-leb, le-leb, not-true, not-false}
+use borrow.Author.Tests.{lt-leb, le-leb}
 use borrow.Author.Needs.{needs}
 use Rattle.rules.specs.Validity.{validCore}
-use Rattle.rules.proofs.Choice.{every-stop, every-stop-later, every-go, every-last}
+use Rattle.rules.proofs.Choice.{holds, fails, every-stop, every-stop-later, every-go, every-last}
 use Rattle.parts.proofs.valid.valid_core.Statement.{statement}
 use Rattle.parts.proofs.valid.valid_core.Tie as tie
 
@@ -13,14 +13,14 @@ valid-port-requires c κs = search needs
 
 returns : tie.Need-returns
 unfolding validCore
-returns c = sym (every-stop _ _ (sym (c .before .valid-port .ensures) ∙ not-true _ (c .if1 .taken)))
+returns c = sym (every-stop _ _ (fails (c .before .valid-port .ensures) (c .if1 .taken)))
 
 valid-port-requires-2 : tie.Need-valid-port-requires-2
 valid-port-requires-2 c κs = search needs
 
 returns-2 : tie.Need-returns-2
 unfolding validCore
-returns-2 c = sym (every-stop-later _ _ (every-stop _ _ (sym (c .before .valid-port2 .ensures) ∙ not-true _ (c .if2 .taken))))
+returns-2 c = sym (every-stop-later _ _ (every-stop _ _ (fails (c .before .valid-port2 .ensures) (c .if2 .taken))))
 
 returns-3 : tie.Need-returns-3
 unfolding validCore
@@ -31,21 +31,21 @@ valid-readback-requires c κs = search needs
 
 returns-4 : tie.Need-returns-4
 unfolding validCore
-returns-4 c = sym (every-stop-later _ _ (every-stop-later _ _ (every-stop-later _ _ (every-stop _ _ (sym (c .before .valid-readback .ensures) ∙ not-true _ (c .if4 .taken))))))
+returns-4 c = sym (every-stop-later _ _ (every-stop-later _ _ (every-stop-later _ _ (every-stop _ _ (fails (c .before .valid-readback .ensures) (c .if4 .taken))))))
 
 is-valid-requires : tie.Need-is-valid-requires
 is-valid-requires c κs = search needs
 
 returns-5 : tie.Need-returns-5
 unfolding validCore
-returns-5 c = sym (every-stop-later _ _ (every-stop-later _ _ (every-stop-later _ _ (every-stop-later _ _ (every-stop _ _ (sym (c .before .is-valid .ensures) ∙ not-true _ (c .if5 .taken)))))))
+returns-5 c = sym (every-stop-later _ _ (every-stop-later _ _ (every-stop-later _ _ (every-stop-later _ _ (every-stop _ _ (fails (c .before .is-valid .ensures) (c .if5 .taken)))))))
 
 valid-slot-requires : tie.Need-valid-slot-requires
 valid-slot-requires c κs = search needs
 
 returns-6 : tie.Need-returns-6
 unfolding validCore
-returns-6 c = sym (every-stop-later _ _ (every-stop-later _ _ (every-stop-later _ _ (every-stop-later _ _ (every-stop-later _ _ (every-stop _ _ (sym (c .before .valid-slot .ensures) ∙ not-true _ (c .if6 .taken))))))))
+returns-6 c = sym (every-stop-later _ _ (every-stop-later _ _ (every-stop-later _ _ (every-stop-later _ _ (every-stop-later _ _ (every-stop _ _ (fails (c .before .valid-slot .ensures) (c .if6 .taken))))))))
 
 valid-progress-requires : tie.Need-valid-progress-requires
 valid-progress-requires c κs = search needs
@@ -53,15 +53,36 @@ valid-progress-requires c κs = search needs
 returns-7 : tie.Need-returns-7
 unfolding validCore
 returns-7 c =
+    let at-slot = c .before in
+    let at-pending = at-slot .before .before in
+    let at-readback = at-pending .before .before in
+    let at-counter = at-readback .before .before in
+    let at-b = at-counter .before .before in
+    let at-a = at-b .before .before in
     c .valid-progress .ensures
     ∙ sym
-    (every-go _ _ (sym (c .before .before .before .before .before .before .before .before .before .before .before .before .valid-port .ensures) ∙ not-false _ (c .before .before .before .before .before .before .before .before .before .before .before .if1 .left))
-    ∙ every-go _ _ (sym (c .before .before .before .before .before .before .before .before .before .before .valid-port2 .ensures) ∙ not-false _ (c .before .before .before .before .before .before .before .before .before .if2 .left))
-    ∙ every-go _ _ (le-leb _ _ (c .before .before .before .before .before .before .before .if3 .left))
-    ∙ every-go _ _ (sym (c .before .before .before .before .before .before .valid-readback .ensures) ∙ not-false _ (c .before .before .before .before .before .if4 .left))
-    ∙ every-go _ _ (sym (c .before .before .before .before .is-valid .ensures) ∙ not-false _ (c .before .before .before .if5 .left))
-    ∙ every-go _ _ (sym (c .before .before .valid-slot .ensures) ∙ not-false _ (c .before .if6 .left))
+    (every-go _ _ (holds (at-a .before .valid-port .ensures) (at-a .if1 .left))
+    ∙ every-go _ _ (holds (at-b .before .valid-port2 .ensures) (at-b .if2 .left))
+    ∙ every-go _ _ (le-leb _ _ (at-counter .if3 .left))
+    ∙ every-go _ _ (holds (at-readback .before .valid-readback .ensures) (at-readback .if4 .left))
+    ∙ every-go _ _ (holds (at-pending .before .is-valid .ensures) (at-pending .if5 .left))
+    ∙ every-go _ _ (holds (at-slot .before .valid-slot .ensures) (at-slot .if6 .left))
     ∙ every-last _)
 
 pub valid-core-spec : {M : Type 1} → statement M
-valid-core-spec = tie.close (tie.spec valid-port-requires returns valid-port-requires-2 returns-2 returns-3 valid-readback-requires returns-4 is-valid-requires returns-5 valid-slot-requires returns-6 valid-progress-requires returns-7)
+valid-core-spec =
+    tie.close
+    (tie.spec
+    valid-port-requires
+    returns
+    valid-port-requires-2
+    returns-2
+    returns-3
+    valid-readback-requires
+    returns-4
+    is-valid-requires
+    returns-5
+    valid-slot-requires
+    returns-6
+    valid-progress-requires
+    returns-7)

@@ -1,3 +1,5 @@
+-- The strict test is the list of tests.
+-- Assumes nothing.
 use Rattle.rules.proofs.Choice.{strict}
 use Rattle.rules.specs.Validity.{validLength}
 use Rattle.parts.proofs.valid.valid_length.Statement.{statement}

@@ -1,3 +1,5 @@
+-- An accepted grant is its clocks; a refused one hands back what it was given.
+-- Assumes nothing.
 use Rattle.rules.proofs.Calls.{grant-accepts, grant-refuses}
 use Rattle.rules.specs.Buffers.{flat}
 use Rattle.rules.specs.Refusals.{grantRefusal}

@@ -1,3 +1,5 @@
+-- Where the number is 0 the byte and the core are those of the read; else nothing is read.
+-- Assumes nothing.
 use Rattle.rules.specs.Choice.{pick}
 use Rattle.rules.specs.Calls.{unlessRefused, readReply}
 use borrow.Author.Tests.{eq-eqb, ne-eqb}

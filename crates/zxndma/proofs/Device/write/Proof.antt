@@ -1,3 +1,5 @@
+-- Where the number is 0 the core is the one written to; else it is as it came.
+-- Assumes nothing.
 use Rattle.rules.specs.Choice.{pick}
 use Rattle.rules.specs.Calls.{unlessRefused, writeReply}
 use borrow.Author.Tests.{eq-eqb, ne-eqb}
