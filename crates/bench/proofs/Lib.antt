@@ -1,4 +1,4 @@
-pub mod Keeping
+pub mod Buffered
 pub mod Taking
 pub mod Working
 pub mod Turning

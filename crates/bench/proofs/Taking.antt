@@ -24,40 +24,40 @@ Taken xs p next = (p < next) × (next ≤ length xs)
 
 module _ (xs : List ℕ) (p : ℕ) where
   -- what is a record takes bytes
-  Stands : Record → Type 0
-  Stands r = (r .number ≡ 0 → ⊥) → (r .number ≡ 5 → ⊥) → r .number < 20 → Taken xs p (r .next)
+  RecordTakes : Record → Type 0
+  RecordTakes r = (r .number ≡ 0 → ⊥) → (r .number ≡ 5 → ⊥) → r .number < 20 → Taken xs p (r .next)
 
-  stands-none : (number : ℕ) → 20 ≤ number → Stands (none number p)
-  unfolding Stands
-  stands-none number h e f g = absurd (omega arith)
+  none-takes : (number : ℕ) → 20 ≤ number → RecordTakes (none number p)
+  unfolding RecordTakes
+  none-takes number h e f g = absurd (omega arith)
 
-  stands-kind : (n k : ℕ) → p + 2 + n ≤ length xs → Stands (ofKind xs p n k)
-  unfolding ofKind writeRecord readRecord grantRecord memoryRecord Stands
-  stands-kind n k h =
-      pick-both Stands _ _ _
-      (pick-cases Stands (eqb n 4) _ _ (λ q e f g. omega (arith, eqb-true n 4 q)) (λ q. stands-none 22 (omega arith)))
-      (pick-both Stands _ _ _
-      (pick-cases Stands (eqb n 3) _ _ (λ q e f g. omega (arith, eqb-true n 3 q)) (λ q. stands-none 22 (omega arith)))
-      (pick-both Stands _ _ _
-      (pick-cases Stands (eqb n 5) _ _ (λ q e f g. omega (arith, eqb-true n 5 q)) (λ q. stands-none 22 (omega arith)))
-      (pick-both Stands _ _ _
-      (pick-both Stands _ _ _ (stands-none 22 (omega arith))
-      (pick-both Stands _ _ _ (stands-none 22 (omega arith)) (λ e f g. omega arith)))
-      (stands-none 22 (omega arith)))))
+  kind-takes : (n k : ℕ) → p + 2 + n ≤ length xs → RecordTakes (ofKind xs p n k)
+  unfolding ofKind writeRecord readRecord grantRecord memoryRecord RecordTakes
+  kind-takes n k h =
+      pick-both RecordTakes _ _ _
+      (pick-cases RecordTakes (eqb n 4) _ _ (λ q e f g. omega (arith, eqb-true n 4 q)) (λ q. none-takes 22 (omega arith)))
+      (pick-both RecordTakes _ _ _
+      (pick-cases RecordTakes (eqb n 3) _ _ (λ q e f g. omega (arith, eqb-true n 3 q)) (λ q. none-takes 22 (omega arith)))
+      (pick-both RecordTakes _ _ _
+      (pick-cases RecordTakes (eqb n 5) _ _ (λ q e f g. omega (arith, eqb-true n 5 q)) (λ q. none-takes 22 (omega arith)))
+      (pick-both RecordTakes _ _ _
+      (pick-both RecordTakes _ _ _ (none-takes 22 (omega arith))
+      (pick-both RecordTakes _ _ _ (none-takes 22 (omega arith)) (λ e f g. omega arith)))
+      (none-takes 22 (omega arith)))))
 
-  stands-short : (ended : Bool) → Stands (short ended p)
-  unfolding short Stands
-  stands-short ended = pick-both Stands ended _ _ (stands-none 21 (omega arith)) (λ e f g. absurd (omega (arith, e)))
+  short-takes : (ended : Bool) → RecordTakes (short ended p)
+  unfolding short RecordTakes
+  short-takes ended = pick-both RecordTakes ended _ _ (none-takes 21 (omega arith)) (λ e f g. absurd (omega (arith, e)))
 
-  stands : (ended : Bool) → Stands (recordAt xs p ended)
-  unfolding recordAt behind Stands
-  stands ended =
-      pick-both Stands _ _ _
-      (pick-both Stands ended _ _ (λ e f g. absurd (omega (arith, f))) (λ e f g. absurd (omega (arith, e))))
-      (pick-cases Stands (leb (length xs) (p + 1)) _ _ (λ q. stands-short ended)
-      (λ a. pick-cases Stands (ltb (length xs - (p + 2)) (word xs p)) _ _ (λ q. stands-short ended)
-      (λ b. pick-both Stands _ _ _ (stands-none 22 (omega arith))
-      (stands-kind (word xs p) (getD xs (p + 2) 0)
+  record-takes : (ended : Bool) → RecordTakes (recordAt xs p ended)
+  unfolding recordAt behind RecordTakes
+  record-takes ended =
+      pick-both RecordTakes _ _ _
+      (pick-both RecordTakes ended _ _ (λ e f g. absurd (omega (arith, f))) (λ e f g. absurd (omega (arith, e))))
+      (pick-cases RecordTakes (leb (length xs) (p + 1)) _ _ (λ q. short-takes ended)
+      (λ a. pick-cases RecordTakes (ltb (length xs - (p + 2)) (word xs p)) _ _ (λ q. short-takes ended)
+      (λ b. pick-both RecordTakes _ _ _ (none-takes 22 (omega arith))
+      (kind-takes (word xs p) (getD xs (p + 2) 0)
       (omega (arith, leb-false (length xs) (p + 1) a, ltb-false (length xs - (p + 2)) (word xs p) b))))))
 
   -- a step that goes on
@@ -82,7 +82,7 @@ module _ (xs : List ℕ) (p : ℕ) where
       (pick-both P ended _ _ (λ e. absurd (omega (arith, e))) (λ e. absurd (omega (arith, e))))
 
   takes-record : (s : Session) (ended : Bool) (out : List ℕ) (b : Buffers (List ℕ)) → Takes (recordStep s xs p ended out b)
-  unfolding recordStep byRecord Takes Stands
+  unfolding recordStep byRecord Takes RecordTakes
   takes-record s ended out b = let
       r : Record = recordAt xs p ended
       in
@@ -90,7 +90,7 @@ module _ (xs : List ℕ) (p : ℕ) where
       (λ a. pick-cases Takes (eqb (r .number) 0) _ _ (λ q e. absurd (omega (arith, e)))
       (λ q₀. pick-cases Takes (eqb (r .number) 5) _ _ (λ q e. absurd (omega (arith, e)))
       (λ q₅. pick-cases Takes (leb 20 (r .number)) _ _ (λ q e. absurd (omega (arith, e)))
-      (λ q e. stands ended (eqb-false (r .number) 0 q₀) (eqb-false (r .number) 5 q₅) (leb-false 20 (r .number) q)))))
+      (λ q e. record-takes ended (eqb-false (r .number) 0 q₀) (eqb-false (r .number) 5 q₅) (leb-false 20 (r .number) q)))))
       (λ a e. omega (arith, long-there xs p (eqb-false (longLength xs p) 0 a)))
 
 pub step-takes : (s : Session) (xs : List ℕ) (p : ℕ) (ended : Bool) (out : List ℕ) (b : Buffers (List ℕ)) → stepOf s xs p ended out b .said .step .progress ≡ 0 → Taken xs p (stepOf s xs p ended out b .said .step .next)

@@ -53,6 +53,9 @@ put-as {l} {l′} {at} {q} e p =
 pub put-byte-as : {l l′ : List ℕ} {at q x y : ℕ} → x ≡ y → Put l at (x ∷ []) l′ q → Put l at (y ∷ []) l′ q
 put-byte-as e p = put-as (ap (λ (z : ℕ). z ∷ []) e) p
 
+pub put-two-as : {l l′ : List ℕ} {at q x x′ y y′ : ℕ} → x ≡ x′ → y ≡ y′ → Put l at (x ∷ y ∷ []) l′ q → Put l at (x′ ∷ y′ ∷ []) l′ q
+put-two-as e f p = put-as (λ i. e i ∷ f i ∷ []) p
+
 -- ---- a line, where there is room and where there is none
 
 pub line-put : {l bytes after : List ℕ} {next : ℕ} → 72 ≤ length l → Put l 0 bytes after next → PutLine l bytes after next

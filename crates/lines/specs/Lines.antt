@@ -23,9 +23,13 @@ decimal n = decimalTo 20 n
 unfoldable pub hexDigit : ℕ → ℕ
 hexDigit d = pick (ltb d 10) (48 + d) (55 + d)
 
+-- a number and the byte behind it
+abbrev pub numberThen : ℕ → ℕ → List ℕ
+numberThen n byte = decimal n ++ (byte ∷ [])
+
 -- a letter, a space, a number
 abbrev pub numberLine : ℕ → ℕ → List ℕ
-numberLine letter number = letter ∷ 32 ∷ (decimal number ++ (10 ∷ []))
+numberLine letter number = letter ∷ 32 ∷ numberThen number 10
 
 -- a port read: R and its number; an accepted one with the byte in two capital hex digits
 unfoldable pub readLine : ℕ → ℕ → List ℕ
@@ -43,7 +47,7 @@ recordLine kind number byte =
 
 -- the last line of a session without a fault: B and the clock counts, bus, held, CPU
 abbrev pub countsLine : Clocks → List ℕ
-countsLine k = 66 ∷ 32 ∷ (decimal (k .bus) ++ (32 ∷ (decimal (k .held) ++ (32 ∷ (decimal (k .cpu) ++ (10 ∷ []))))))
+countsLine k = 66 ∷ 32 ∷ (numberThen (k .bus) 32 ++ (numberThen (k .held) 32 ++ numberThen (k .cpu) 10))
 
 -- the last line of a session with a fault: S and its number
 abbrev pub faultLine : ℕ → List ℕ

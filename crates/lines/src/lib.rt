@@ -4,7 +4,7 @@ ghost use mathlib.Core.Path.{_≡_};
 ghost use mathlib.Core.List.{[], _∷_};
 ghost use Prim.Native.Nat.{_+_, _≤_, _<_};
 ghost use lib.ListN.{length};
-ghost use Rattle.lines.specs.Lines.{decimalTo, hexDigit, numberLine, readLine, recordLine, countsLine, faultLine, Put, PutLine};
+ghost use Rattle.lines.specs.Lines.{decimalTo, hexDigit, numberThen, numberLine, readLine, recordLine, countsLine, faultLine, Put, PutLine};
 use rules::Clocks;
 
 // The room that a caller lends for a line. The longest, of three counts with 20 digits each, has 65 bytes.
@@ -83,15 +83,32 @@ fn put_decimal(most: usize, n: u64, line: &mut [u8], at: usize) -> usize
     put_byte(last, line, next)
 }
 
+// Two bytes.
+fn put_two(first: u8, second: u8, line: &mut [u8], at: usize) -> usize
+    requires { ⌜ at + 2 ≤ length (now line) ⌝ }
+    ensures { λ r. ⌜ Put (now (line .entry)) at (first ∷ second ∷ []) (now (line .exit)) r ⌝ }
+{
+    let next = put_byte(first, line, at);
+    put_byte(second, line, next)
+}
+
+// A number and the byte behind it.
+fn put_number(n: u64, end: u8, line: &mut [u8], at: usize) -> usize
+    requires { ⌜ at + 21 ≤ length (now line) ⌝ }
+    ensures { λ r. ⌜ Put (now (line .entry)) at (numberThen n end) (now (line .exit)) r ⌝ }
+    ensures { λ r. ⌜ r ≤ at + 21 ⌝ }
+{
+    let next = put_decimal(DIGITS, n, line, at);
+    put_byte(end, line, next)
+}
+
 // A letter, a space, a number.
 fn put_number_line(letter: u8, number: u8, line: &mut [u8]) -> usize
     requires { ⌜ 72 ≤ length (now line) ⌝ }
     ensures { λ r. ⌜ Put (now (line .entry)) 0 (numberLine letter number) (now (line .exit)) r ⌝ }
 {
-    let at = put_byte(letter, line, 0);
-    let at = put_byte(SPACE, line, at);
-    let at = put_decimal(DIGITS, wide(number), line, at);
-    put_byte(LINE_FEED, line, at)
+    let at = put_two(letter, SPACE, line, 0);
+    put_number(wide(number), LINE_FEED, line, at)
 }
 
 // The line of a port read: an accepted one with its byte.
@@ -102,12 +119,9 @@ fn put_read_line(number: u8, byte: u8, line: &mut [u8]) -> usize
     if number == 0 {
         let high = hex_digit(byte / 16);
         let low = hex_digit(byte % 16);
-        let at = put_byte(READ, line, 0);
-        let at = put_byte(SPACE, line, at);
-        let at = put_byte(ZERO, line, at);
-        let at = put_byte(SPACE, line, at);
-        let at = put_byte(high, line, at);
-        let at = put_byte(low, line, at);
+        let at = put_two(READ, SPACE, line, 0);
+        let at = put_two(ZERO, SPACE, line, at);
+        let at = put_two(high, low, line, at);
         return put_byte(LINE_FEED, line, at);
     }
     put_number_line(READ, number, line)
@@ -135,14 +149,10 @@ fn counts_line(clocks: Clocks, line: &mut [u8]) -> usize
     requires { ⌜ 72 ≤ length (now line) ⌝ }
     ensures { λ r. ⌜ Put (now (line .entry)) 0 (countsLine clocks) (now (line .exit)) r ⌝ }
 {
-    let at = put_byte(COUNTS, line, 0);
-    let at = put_byte(SPACE, line, at);
-    let at = put_decimal(DIGITS, clocks.bus, line, at);
-    let at = put_byte(SPACE, line, at);
-    let at = put_decimal(DIGITS, clocks.held, line, at);
-    let at = put_byte(SPACE, line, at);
-    let at = put_decimal(DIGITS, clocks.cpu, line, at);
-    put_byte(LINE_FEED, line, at)
+    let at = put_two(COUNTS, SPACE, line, 0);
+    let at = put_number(clocks.bus, SPACE, line, at);
+    let at = put_number(clocks.held, SPACE, line, at);
+    put_number(clocks.cpu, LINE_FEED, line, at)
 }
 
 // The line of a record of this kind, answered with this number and, for a port read, this byte, at the front of `line`. The

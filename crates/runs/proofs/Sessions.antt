@@ -15,6 +15,7 @@ use Rattle.rules.specs.Choice.{pick}
 use Rattle.rules.specs.Bytes.{AreBytes}
 use Rattle.rules.specs.Buffers.{flat}
 use Rattle.rules.specs.World.{System}
+use Rattle.rules.specs.Calls.{Answer}
 use Rattle.rules.specs.Entries.{Poke, flatOutside, Entry, portWrite, portRead, clockGrant, outsideChange, bytesWritten, run}
 use Rattle.rules.proofs.Choice.{pick-both, pick-cases, pick-true}
 use Rattle.rules.proofs.Accounts.{demand3}
@@ -33,13 +34,19 @@ use Rattle.runs.specs.Stepping.{endedBy, lineBefore}
 abbrev pub played : List ℕ → Decoded → System (List ℕ) → Ended
 played xs d s = printed d (run flat flatOutside (entriesOf xs (d .records)) s)
 
--- what follows a record, or what stands in place of one
+-- a record that was answered: its line, and what follows it
+abbrev pub answerLine : Record → Answer (List ℕ) → List ℕ
+answerLine r a = recordLine (r .number) (a .number) (a .byte)
+
+abbrev pub followed : ℕ → List ℕ → Record → Answer (List ℕ) → Ended
+followed most xs r a = lineBefore (answerLine r a) (played xs (decodedFrom most xs (r .next)) (a .system))
+
+-- by a record, or by what stands in place of one
 unfoldable pub after : ℕ → List ℕ → Record → System (List ℕ) → Ended
 after most xs r s =
     pick (eqb (r .number) 5) (endedBy (countsLine (s .clocks)) 0 s)
     (pick (leb 20 (r .number)) (endedBy (faultLine (r .number)) (r .number) s)
-    (lineBefore (recordLine (r .number) (effect xs r s .answered .number) (effect xs r s .answered .byte))
-    (played xs (decodedFrom most xs (r .next)) (effect xs r s .system))))
+    (followed most xs r (effect xs r s)))
 
 module _ (xs : List ℕ) (s : System (List ℕ)) where
   -- no record, and no fault
@@ -53,11 +60,11 @@ module _ (xs : List ℕ) (s : System (List ℕ)) where
   played-fault fault e = simp e
 
   -- one record more
-  played-more : (r : Record) (d : Decoded) → played xs (recordBefore r d) s ≡ lineBefore (recordLine (r .number) (effect xs r s .answered .number) (effect xs r s .answered .byte)) (played xs d (effect xs r s .system))
+  played-more : (r : Record) (d : Decoded) → played xs (recordBefore r d) s ≡ lineBefore (answerLine r (effect xs r s)) (played xs d (effect xs r s .system))
   unfolding entriesOf run linesOf
   played-more r d =
       ap (λ (l : List ℕ). endedBy l (d .fault) (played xs d (effect xs r s .system) .system))
-      (append-assoc (recordLine (r .number) (effect xs r s .answered .number) (effect xs r s .answered .byte)) _ _)
+      (append-assoc (answerLine r (effect xs r s)) _ _)
 
   -- by what stands at a place
   pub played-from : (most p : ℕ) → played xs (decodedFrom (suc most) xs p) s ≡ after most xs (recordAt xs p true) s

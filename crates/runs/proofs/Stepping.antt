@@ -16,7 +16,7 @@ use Rattle.rules.proofs.Choice.{pick-true, pick-false, either, clash}
 use Rattle.zxndma.specs.Answers.{deviceAtPowerOn}
 use Rattle.zxndma.specs.declared.Device.{Device}
 use Rattle.records.specs.Records.{none, recordAt, longLength}
-use Rattle.lines.specs.Lines.{recordLine, countsLine, faultLine}
+use Rattle.lines.specs.Lines.{countsLine, faultLine}
 use Rattle.session.specs.Effects.{effect}
 use Rattle.session.specs.Steps.{Said, Outcome, inPhase, sessionAtStart, deviceOf, systemWith, carried, lastCounts, lastFault, withoutLine, buffersKept, versionStep, longStep, byRecord, recordStep, stepOf}
 use Rattle.runs.specs.Sessions.{Decoded, decodedFrom, decoded, Ended, start, session}
@@ -25,7 +25,7 @@ use Rattle.records.specs.declared.Record.{Record}
 use Rattle.records.proofs.Choosing.{both}
 use Rattle.records.proofs.Standing.{Stands, stands, at-end, short-end, long, record-whole, record-cut}
 use Rattle.lines.proofs.Lines.{put-taken, placed-size, number-room, record-room, counts-room}
-use Rattle.runs.proofs.Sessions.{played, after, played-end, played-fault, played-from}
+use Rattle.runs.proofs.Sessions.{played, answerLine, followed, after, played-end, played-fault, played-from}
 
 -- ---- what follows a step
 
@@ -64,19 +64,19 @@ module _ (xs out : List ℕ) (room : 72 ≤ length out) (b : Buffers (List ℕ))
   step-long p e = pick-false _ _ _ (ne-eqb (longLength xs p) 0 e)
 
   -- a record that was carried out
-  onward-carried : (k most : ℕ) (r : Record) (a : Answer (List ℕ)) → ((out′ : List ℕ) → 72 ≤ length out′ → stepsFrom k (inPhase 1 0 (deviceOf (a .system))) xs (r .next) out′ (a .system .world .buffers) ≡ played xs (decodedFrom most xs (r .next)) (a .system)) → onward k xs (carried r a out) ≡ lineBefore (recordLine (r .number) (a .answered .number) (a .answered .byte)) (played xs (decodedFrom most xs (r .next)) (a .system))
+  onward-carried : (k most : ℕ) (r : Record) (a : Answer (List ℕ)) → ((out′ : List ℕ) → 72 ≤ length out′ → stepsFrom k (inPhase 1 0 (deviceOf (a .system))) xs (r .next) out′ (a .system .world .buffers) ≡ played xs (decodedFrom most xs (r .next)) (a .system)) → onward k xs (carried r a out) ≡ followed most xs r a
   unfolding onward pick
   onward-carried k most r a h =
       ap
-      (λ (l : List ℕ). lineBefore l (stepsFrom k (inPhase 1 0 (deviceOf (a .system))) xs (r .next) (placed 0 (recordLine (r .number) (a .answered .number) (a .answered .byte)) out) (a .system .world .buffers)))
-      (put-taken (recordLine (r .number) (a .answered .number) (a .answered .byte)) out (omega (arith, record-room (r .number) (a .answered .number) (a .answered .byte))))
-      ∙ ap (lineBefore (recordLine (r .number) (a .answered .number) (a .answered .byte)))
+      (λ (l : List ℕ). lineBefore l (stepsFrom k (inPhase 1 0 (deviceOf (a .system))) xs (r .next) (placed 0 (answerLine r a) out) (a .system .world .buffers)))
+      (put-taken (answerLine r a) out (omega (arith, record-room (r .number) (a .answered .number) (a .answered .byte))))
+      ∙ ap (lineBefore (answerLine r a))
       (h
-      (placed 0 (recordLine (r .number) (a .answered .number) (a .answered .byte)) out)
-      (omega (arith, placed-size 0 (recordLine (r .number) (a .answered .number) (a .answered .byte)) out)))
+      (placed 0 (answerLine r a) out)
+      (omega (arith, placed-size 0 (answerLine r a) out)))
 
   -- what stands at a place, taken by a step
-  onward-record : (k most p : ℕ) (r : Record) → Stands xs p r → (p < r .next → onward k xs (carried r (effect xs r (systemWith d b)) out) ≡ lineBefore (recordLine (r .number) (effect xs r (systemWith d b) .answered .number) (effect xs r (systemWith d b) .answered .byte)) (played xs (decodedFrom most xs (r .next)) (effect xs r (systemWith d b) .system))) → onward k xs (byRecord r (inPhase 1 0 d) xs out b) ≡ after most xs r (systemWith d b)
+  onward-record : (k most p : ℕ) (r : Record) → Stands xs p r → (p < r .next → onward k xs (carried r (effect xs r (systemWith d b)) out) ≡ followed most xs r (effect xs r (systemWith d b))) → onward k xs (byRecord r (inPhase 1 0 d) xs out b) ≡ after most xs r (systemWith d b)
   unfolding byRecord after
   onward-record k most p r s h =
       ap (onward k xs) (pick-false _ _ _ (ne-eqb (r .number) 0 (λ e. omega (arith, s .some, e))))

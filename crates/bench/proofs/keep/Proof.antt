@@ -3,7 +3,7 @@
 use Prim.Native.Nat.{_≤_, _-_}
 use borrow.Author.Needs.{needs}
 use lib.ListN.{length}
-use Rattle.bench.proofs.Keeping.{Keeping, keeping-start, keeping-more, keeping-end}
+use Rattle.bench.proofs.Buffered.{Keeping, keeping-start, keeping-more, keeping-end}
 use Rattle.bench.proofs.keep.Statement.{statement}
 use Rattle.bench.proofs.keep.Tie as tie
 
