@@ -1,14 +1,14 @@
-//! The clocks of `stepping.rs`, taken together, in plain Rust: a grant goes to
-//! the end of the running slot, then through all slots that end within it,
-//! block after block, then into the slot after them. What it costs depends on
-//! the bytes that it moves and not on its clocks.
+//! A module: the clocks of `stepping.rs`, taken together, in plain Rust.
+//!
+//! A grant goes to the end of the running slot, then through all slots that end
+//! within it, block after block, then into the slot after them. What it costs
+//! depends on the bytes that it moves and not on its clocks.
 //!
 //! Every byte moves, and in order, however the blocks overlap. The states are
 //! valid ones: an enabled device whose next byte has not moved has not finished
 //! its block.
 //!
-//! A module without a main: a program includes it beside `stepping.rs`, as
-//! `measure.rs` does.
+//! A program includes it beside `stepping.rs`, as `measure.rs` does.
 
 #![forbid(unsafe_code)]
 

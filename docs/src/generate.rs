@@ -1,8 +1,8 @@
-//! Random sessions for the bench program: the same ones for the same seed.
+//! A module: random sessions for the bench program, the same for the same seed.
 //!
-//! A module without a main: the programs that compare include it by
-//! `#[path = "generate.rs"] mod generate;`, so it is built with them. Its
-//! random numbers and some of its choices serve `states.rs` for devices, too.
+//! `compare.rs`, `states.rs`, `measure.rs`, `timings.rs` and the lab's tests
+//! include it. Its random numbers and some of its choices serve `states.rs` for
+//! devices, too.
 
 // Each of these programs uses a part of it.
 #![allow(dead_code)]

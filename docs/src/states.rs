@@ -1,9 +1,13 @@
-//! Compares the linked library with the second program: on devices of any
-//! content, with any port, byte, clocks and buffers, and on sessions. Every
-//! answer is compared whole: number, byte, each field of the device, and
-//! after a grant both buffers, in a session after every record. The sessions
-//! of a seed are those that `compare.rs` makes of it. What the grants came to
-//! is counted.
+//! A program: compares the linked library with the second program, call by call.
+//!
+//! On devices of any content, with any port, byte, clocks and buffers, and on
+//! sessions. Every answer is compared whole: number, byte, each field of the
+//! device, and after a grant both buffers, in a session after every record.
+//! The sessions of a seed are those that `compare.rs` makes of it. What the
+//! grants came to is counted.
+//!
+//! Built by `rustc --edition 2021 -O -L native=target/staticlib states.rs`,
+//! from this folder or with its path; `states --help` says how it is run.
 
 #![deny(unsafe_code)]
 
@@ -11,6 +15,8 @@
 mod generate;
 #[path = "grants.rs"]
 mod grants;
+#[path = "program.rs"]
+mod program;
 #[path = "reference.rs"]
 mod reference;
 #[path = "stored.rs"]
@@ -28,11 +34,16 @@ use zxndma::{Block, Clocks, Control, Core, Device, Pending, Port, Readback, Slot
 const CALLS: u64 = 1_000_000;
 const SESSIONS: u64 = 5_000;
 
-const USAGE: &str = "usage: states [--calls N] [--sessions N] [--seed N]... [FILE.hex]...
-Compares the linked library with the second program, for each seed by N calls
+const HELP: &str = "\
+usage: states [--calls N] [--sessions N] [--seed N]... [FILE.hex]...
+Compares the linked library with the second program, for each seed (1) by N calls
 on made devices (1000000) and N made sessions (5000), and on the stored sessions.
-Fails at the first difference, or if some refusal never occurred, or, with as
-many calls or sessions as these, some case of a long grant.";
+Prints how often each number was answered, and what the grants came to.
+
+Exit status: 0 no difference; 1 a difference, which is shown, or a number that a
+call can answer never came, or, with as many calls or sessions as these, some
+case of a long grant, or a FILE can't be read; 2 bad arguments.
+";
 
 // ---- Both sides ----------------------------------------------------------
 
@@ -796,21 +807,21 @@ struct Options {
 }
 
 /// The options, or what is wrong with them.
-fn options(mut words: impl Iterator<Item = String>) -> Result<Options, String> {
+fn options(words: &[&str]) -> Result<Options, String> {
     let mut options =
         Options { calls: CALLS, sessions: SESSIONS, seeds: Vec::new(), paths: Vec::new() };
-    while let Some(word) = words.next() {
-        if !word.starts_with("--") {
-            options.paths.push(word);
-            continue;
-        }
-        let value = words.next().ok_or(format!("{} asks for a number", word))?;
-        let number = value.parse().map_err(|_| format!("{}: {} is not a number", word, value))?;
-        match word.as_str() {
-            "--calls" => options.calls = number,
-            "--sessions" => options.sessions = number,
-            "--seed" => options.seeds.push(number),
-            _ => return Err(format!("{} is not an option", word)),
+    let mut words = words.iter();
+    while let Some(&word) = words.next() {
+        let mut number = || {
+            let value = words.next().ok_or(format!("{word} asks for a number"))?;
+            value.parse().map_err(|_| format!("{word}: {value} is not a number"))
+        };
+        match word {
+            "--calls" => options.calls = number()?,
+            "--sessions" => options.sessions = number()?,
+            "--seed" => options.seeds.push(number()?),
+            _ if word.starts_with('-') => return Err(format!("{word} is not an option")),
+            _ => options.paths.push(word.to_string()),
         }
     }
     if options.seeds.is_empty() {
@@ -853,26 +864,9 @@ fn compare(options: &Options) -> Result<String, String> {
 }
 
 fn main() -> ExitCode {
-    let words: Vec<String> = std::env::args().skip(1).collect();
-    if words.iter().any(|word| word == "--help") {
-        println!("{}", USAGE);
-        return ExitCode::SUCCESS;
-    }
-    let options = match options(words.into_iter()) {
-        Ok(options) => options,
-        Err(fault) => {
-            eprintln!("states: {}\n{}", fault, USAGE);
-            return ExitCode::from(2);
-        }
-    };
-    match compare(&options) {
-        Ok(summary) => {
-            println!("{}", summary);
-            ExitCode::SUCCESS
-        }
-        Err(fault) => {
-            eprintln!("states: FAILED: {}", fault);
-            ExitCode::FAILURE
-        }
-    }
+    program::main("states", HELP, |words| {
+        let options = options(words).map_err(program::bad_usage)?;
+        println!("{}", compare(&options).map_err(|fault| (1, format!("FAILED: {fault}")))?);
+        Ok(())
+    })
 }
