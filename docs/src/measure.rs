@@ -193,11 +193,7 @@ fn accepted_left(state: &State) -> Left {
 
 /// Half of them at the ends, so that pointers wrap.
 fn made_address(rng: &mut Rng) -> u16 {
-    if rng.chance(1, 2) {
-        rng.pick(&[0, 1, 2, 0xFFFD, 0xFFFE, 0xFFFF])
-    } else {
-        rng.word()
-    }
+    rng.pick_or(&[0, 1, 2, 0xFFFD, 0xFFFE, 0xFFFF], Rng::word)
 }
 
 fn made_port(rng: &mut Rng) -> clock::Port {

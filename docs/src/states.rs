@@ -329,11 +329,7 @@ impl Bench {
 /// Half of them from the edges.
 fn byte(rng: &mut Rng) -> u8 {
     const EDGES: [u8; 18] = [0, 1, 2, 3, 4, 5, 6, 7, 8, 9, 10, 11, 126, 127, 128, 129, 254, 255];
-    if rng.chance(1, 2) {
-        rng.pick(&EDGES)
-    } else {
-        rng.byte()
-    }
+    rng.pick_or(&EDGES, Rng::byte)
 }
 
 /// Half of them from the edges: of addresses, lengths and slots.
@@ -342,11 +338,7 @@ fn word(rng: &mut Rng) -> u16 {
         0, 1, 2, 3, 4, 5, 7, 8, 9, 16, 31, 32, 33, 48, 64, 0x00FF, 0x0100, 8_128, 8_159, 8_160,
         8_161, 8_192, 0xFFFE, 0xFFFF,
     ];
-    if rng.chance(1, 2) {
-        rng.pick(&EDGES)
-    } else {
-        rng.word()
-    }
+    rng.pick_or(&EDGES, Rng::word)
 }
 
 /// For a block count: about it, about the largest, or anything.
@@ -617,11 +609,7 @@ fn made_port(rng: &mut Rng) -> u16 {
 fn made_byte(rng: &mut Rng) -> u8 {
     const COMMANDS: [u8; 14] =
         [0x83, 0x87, 0x87, 0xC0, 0x80, 0xC3, 0xC7, 0xCB, 0xCF, 0xD3, 0x8B, 0xBF, 0xA7, 0xBB];
-    if rng.chance(1, 2) {
-        rng.pick(&COMMANDS)
-    } else {
-        rng.byte()
-    }
+    rng.pick_or(&COMMANDS, Rng::byte)
 }
 
 fn made_length(rng: &mut Rng) -> usize {

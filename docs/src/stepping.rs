@@ -155,7 +155,8 @@ pub mod clock {
             Slot { elapsed: 0, bus, length, burst: self.control.burst }
         }
 
-        fn move_byte(&mut self, memory: &mut Bytes, latches: &mut Bytes) {
+        /// A byte moves from source to destination, and both pointers step.
+        pub fn move_byte(&mut self, memory: &mut Bytes, latches: &mut Bytes) {
             let (source, destination) =
                 if self.control.forward { (&self.a, &self.b) } else { (&self.b, &self.a) };
             let from = if source.io { &*latches } else { &*memory };
@@ -169,7 +170,7 @@ pub mod clock {
         }
 
         /// What follows a slot's last clock.
-        fn end_slot(&mut self) {
+        pub fn end_slot(&mut self) {
             self.slot = NO_SLOT;
             if !self.finished() {
                 return;
