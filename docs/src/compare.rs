@@ -1,8 +1,7 @@
-//! Compares the bench program with the second program, `reference.rs`, on
-//! random sessions and on stored ones: all bytes of its lines, nothing on
-//! standard error, exit status 0.
+//! A program: compares the bench program with the second, `reference.rs`.
 //!
-//! Built by `rustc --edition 2021 -O compare.rs`, from this folder or with
+//! On random sessions and on stored ones: all bytes of its lines, nothing on
+//! standard error, exit status 0. Built by `rustc --edition 2021 -O compare.rs`, from this folder or with
 //! its path; `compare --help` says how it is run.
 
 #![forbid(unsafe_code)]
@@ -11,20 +10,22 @@
 mod generate;
 #[path = "process.rs"]
 mod process;
+#[path = "program.rs"]
+mod program;
 #[path = "reference.rs"]
 mod reference;
 #[path = "stored.rs"]
 mod stored;
 
 use generate::Rng;
+use program::Failure;
 use std::process::{ExitCode, Output};
 use std::time::{SystemTime, UNIX_EPOCH};
 
 const HELP: &str = "\
-compare BENCH SEED COUNT [FILE ...]
-
+usage: compare BENCH SEED COUNT [FILE ...]
 Runs the program BENCH on sessions and compares what it writes with the lines
-of the second program.
+of the second program. Prints the seed, and how many lines of each shape came.
 
   BENCH  the bench program: a session on standard input, lines on the output
   SEED   a number, or `date` for the days since 1970-01-01
@@ -39,14 +40,6 @@ of line that never came; 2 bad arguments, or BENCH or a FILE can't be used.
 /// From this many sessions on every shape of line must have come.
 const ENOUGH: u64 = 1_000;
 
-/// Why the program ends without agreement.
-enum Failure {
-    /// The programs differ, or the sessions cover too little.
-    Found(String),
-    /// Nothing could be compared.
-    Unable(String),
-}
-
 // ---- Arguments -----------------------------------------------------------
 
 struct Arguments {
@@ -56,9 +49,9 @@ struct Arguments {
     files: Vec<String>,
 }
 
-fn arguments(given: &[String]) -> Result<Arguments, String> {
-    let (bench, seed, count, files) = match given {
-        [bench, seed, count, files @ ..] => (bench, seed, count, files),
+fn arguments(given: &[&str]) -> Result<Arguments, String> {
+    let (bench, seed, count, files) = match *given {
+        [bench, seed, count, ref files @ ..] => (bench, seed, count, files),
         _ => return Err(format!("three arguments or more are needed, {} given", given.len())),
     };
     let seed = if seed == "date" { days_since_epoch()? } else { number("SEED", seed)? };
@@ -66,7 +59,8 @@ fn arguments(given: &[String]) -> Result<Arguments, String> {
     if count == 0 {
         return Err("COUNT is 0: nothing would be compared".to_string());
     }
-    Ok(Arguments { bench: bench.clone(), seed, count, files: files.to_vec() })
+    let files = files.iter().map(|file| file.to_string()).collect();
+    Ok(Arguments { bench: bench.to_string(), seed, count, files })
 }
 
 fn number(name: &str, given: &str) -> Result<u64, String> {
@@ -97,7 +91,7 @@ impl Bench<'_> {
         };
         match process::run(self.program, &pieces) {
             Ok(given) => Ok(faults(expected, &given)),
-            Err(error) => Err(Failure::Unable(format!("running {}: {error}", self.program))),
+            Err(error) => Err((2, format!("running {}: {error}", self.program))),
         }
     }
 }
@@ -304,7 +298,8 @@ fn report(name: &str, session: &[u8], bench: Bench, difference: String) -> Resul
     let mut differing = Differing { bench, parts: whole, difference, tries: 2_000 };
     differing.shorten()?;
     let Differing { parts, difference, .. } = differing;
-    Ok(format!("{before}shortened:\n\n{}\n\nit differs:\n{difference}", listing(&parts)))
+    let (listing, difference) = (listing(&parts), difference.trim_end());
+    Ok(format!("{before}shortened:\n\n{listing}\n\nit differs:\n{difference}"))
 }
 
 // ---- All comparisons -----------------------------------------------------
@@ -341,7 +336,7 @@ impl Tally {
 fn compare(name: &str, session: &[u8], bench: Bench) -> Result<Vec<u8>, Failure> {
     let expected = reference::session::run(session);
     match bench.difference(session, &expected)? {
-        Some(difference) => Err(Failure::Found(report(name, session, bench, difference)?)),
+        Some(difference) => Err((1, report(name, session, bench, difference)?)),
         None => Ok(expected),
     }
 }
@@ -363,13 +358,13 @@ fn compare_random(arguments: &Arguments) -> Result<Tally, Failure> {
 
 fn compare_all(arguments: &Arguments) -> Result<String, Failure> {
     for file in &arguments.files {
-        let session = stored::session(file).map_err(Failure::Unable)?;
+        let session = stored::session(file).map_err(|text| (2, text))?;
         compare(file, &session, Bench { program: &arguments.bench, pieces: None })?;
     }
     let tally = compare_random(arguments)?;
     if let Some((shape, _)) = tally.shapes().find(|&(_, times)| times == 0) {
         if arguments.count >= ENOUGH {
-            return Err(Failure::Found(format!("no session gave a line of the shape {shape}\n")));
+            return Err((1, format!("no session gave a line of the shape {shape}")));
         }
     }
     let count = arguments.count;
@@ -386,31 +381,10 @@ fn compare_all(arguments: &Arguments) -> Result<String, Failure> {
 }
 
 fn main() -> ExitCode {
-    let given: Vec<String> = std::env::args().skip(1).collect();
-    if given.iter().any(|argument| argument == "--help") {
-        print!("{HELP}");
-        return ExitCode::SUCCESS;
-    }
-    let arguments = match arguments(&given) {
-        Ok(arguments) => arguments,
-        Err(text) => {
-            eprintln!("compare: {text}\nSee compare --help.");
-            return ExitCode::from(2);
-        }
-    };
-    println!("seed {}", arguments.seed);
-    match compare_all(&arguments) {
-        Ok(text) => {
-            println!("{text}");
-            ExitCode::SUCCESS
-        }
-        Err(Failure::Found(text)) => {
-            print!("{text}");
-            ExitCode::FAILURE
-        }
-        Err(Failure::Unable(text)) => {
-            eprintln!("compare: {text}");
-            ExitCode::from(2)
-        }
-    }
+    program::main("compare", HELP, |words| {
+        let arguments = arguments(words).map_err(program::bad_usage)?;
+        println!("seed {}", arguments.seed);
+        println!("{}", compare_all(&arguments)?);
+        Ok(())
+    })
 }

@@ -1,18 +1,19 @@
-//! The clocks of `stepping.rs`, taken together, in plain Rust: a grant goes to
-//! the end of the running slot, then through all slots that end within it,
-//! block after block, then into the slot after them. What it costs depends on
-//! the bytes that it moves and not on its clocks.
+//! A module: the clocks of `stepping.rs`, taken together, in plain Rust.
+//!
+//! A grant goes to the end of the running slot, then through all slots that end
+//! within it, block after block, then into the slot after them. What it costs
+//! depends on the bytes that it moves and not on its clocks. A byte of a slot
+//! that is cut, and the end of such a slot, are those of `stepping.rs`.
 //!
 //! Every byte moves, and in order, however the blocks overlap. The states are
 //! valid ones: an enabled device whose next byte has not moved has not finished
 //! its block.
 //!
-//! A module without a main: a program includes it beside `stepping.rs`, as
-//! `measure.rs` does.
+//! A program includes it beside `stepping.rs`, as `measure.rs` does.
 
 #![forbid(unsafe_code)]
 
-use super::stepping::clock::{Bytes, Port, Slot, State, NO_SLOT};
+use super::stepping::clock::{Bytes, Port, Slot, State};
 
 /// The clocks of a grant.
 pub fn grant(state: &mut State, memory: &mut Bytes, latches: &mut Bytes, clocks: u32) {
@@ -37,11 +38,11 @@ fn running_slot(state: &mut State, memory: &mut Bytes, latches: &mut Bytes, cloc
     let bus_left = u32::from(slot.bus.saturating_sub(slot.elapsed));
     count(state, &slot, used.min(bus_left), used.saturating_sub(bus_left));
     if bus_left > 0 && used >= bus_left {
-        move_byte(state, memory, latches);
+        state.move_byte(memory, latches);
     }
     state.slot.elapsed += used as u16;
     if state.slot.elapsed == slot.length {
-        end_slot(state);
+        state.end_slot();
     }
     used
 }
@@ -65,23 +66,6 @@ fn count(state: &mut State, slot: &Slot, bus: u32, wait: u32) {
     *waiting += u64::from(wait);
 }
 
-/// What follows a slot's last clock.
-fn end_slot(state: &mut State) {
-    state.slot = NO_SLOT;
-    let count = state.block_count();
-    if state.block.counter < count {
-        return;
-    }
-    state.e = false;
-    if state.control.restart && count > 0 {
-        state.a.pointer = state.a.address;
-        state.b.pointer = state.b.address;
-        state.block.counter = 0;
-    } else {
-        state.enabled = false;
-    }
-}
-
 /// Source and destination.
 fn ends(state: &mut State) -> (&mut Port, &mut Port) {
     if state.control.forward {
@@ -98,19 +82,6 @@ fn step(port: &Port) -> u16 {
         1 => 1,
         _ => 0,
     }
-}
-
-/// One byte, of a slot that does not end with it or began before.
-fn move_byte(state: &mut State, memory: &mut Bytes, latches: &mut Bytes) {
-    let (source, destination) = ends(state);
-    let from = if source.io { &*latches } else { &*memory };
-    let byte = from[usize::from(source.pointer)];
-    let to = if destination.io { latches } else { memory };
-    to[usize::from(destination.pointer)] = byte;
-    source.pointer = source.pointer.wrapping_add(step(source));
-    destination.pointer = destination.pointer.wrapping_add(step(destination));
-    state.block.counter += 1;
-    state.t = true;
 }
 
 /// The bytes of so many whole slots, or of fewer if the last block ends before.

@@ -1,11 +1,20 @@
-/* Embeds the zxnDMA in a C program: it copies four bytes from 1000 to 2000 and reads the registers back.
- * docs/src/example.rs does the same in Rust. */
+/* A program: embeds the zxnDMA in C, as an example to start from.
+ *
+ * It copies four bytes from 1000 to 2000 and reads the registers back. docs/src/example.rs does the same in Rust;
+ * docs/src/run-examples builds both. */
 #include <inttypes.h>
 #include <stdio.h>
 #include <stdlib.h>
 #include <string.h>
 
 #include "zxndma.h"
+
+static const char help[] =
+    "usage: example\n"
+    "Copies four bytes by the zxnDMA and reads its registers back: an example of a\n"
+    "program with the library target/staticlib/libhost.a linked in. It prints a\n"
+    "refusal, the clock counts, the bytes copied and the registers: example.out.\n"
+    "Exit status: 0 done; 1 a call was refused that should not be; 2 bad arguments.\n";
 
 /* The DMA's port in zxn mode. */
 #define PORT 0x006B
@@ -43,7 +52,7 @@ static void print_bytes(const char *title, const uint8_t *bytes, size_t count)
     printf("\n");
 }
 
-int main(void)
+static void run(void)
 {
     static const uint8_t source[] = {0x11, 0x22, 0x33, 0x44};
     zxndma_device device = zxndma_power_on();
@@ -79,5 +88,17 @@ int main(void)
     }
     print_bytes("registers:", registers, sizeof registers);
     printf("valid: %s\n", zxndma_valid(device) ? "yes" : "no");
+}
+
+int main(int argc, char **argv)
+{
+    if (argc == 1) {
+        run();
+    } else if (strcmp(argv[1], "-h") == 0 || strcmp(argv[1], "--help") == 0) {
+        printf("%s", help);
+    } else {
+        fprintf(stderr, "example: no argument is expected; see --help\n");
+        return 2;
+    }
     return 0;
 }

@@ -1,5 +1,7 @@
-//! Embeds the zxnDMA in a Rust program: it copies four bytes from 1000 to
-//! 2000 and reads the registers back. docs/src/example.c does the same in C.
+//! A program: embeds the zxnDMA in Rust, as an example to start from.
+//!
+//! It copies four bytes from 1000 to 2000 and reads the registers back.
+//! docs/src/example.c does the same in C; docs/src/run-examples builds both.
 
 #![deny(unsafe_code)]
 
@@ -8,6 +10,14 @@ mod zxndma;
 
 use std::process::exit;
 use zxndma::{Device, BUFFER_LENGTH};
+
+const HELP: &str = "\
+usage: example
+Copies four bytes by the zxnDMA and reads its registers back: an example of a
+program with the library target/staticlib/libhost.a linked in. It prints a
+refusal, the clock counts, the bytes copied and the registers: example.out.
+Exit status: 0 done; 1 a call was refused that should not be; 2 bad arguments.
+";
 
 /// The DMA's port in zxn mode.
 const PORT: u16 = 0x006B;
@@ -40,6 +50,17 @@ fn print_bytes(title: &str, bytes: &[u8]) {
 }
 
 fn main() {
+    match std::env::args().nth(1).as_deref() {
+        None => run(),
+        Some("-h" | "--help") => print!("{}", HELP),
+        Some(_) => {
+            eprintln!("example: no argument is expected; see --help");
+            exit(2);
+        }
+    }
+}
+
+fn run() {
     let mut memory = vec![0; BUFFER_LENGTH];
     let mut latches = vec![0; BUFFER_LENGTH];
     memory[0x1000..0x1004].copy_from_slice(&[0x11, 0x22, 0x33, 0x44]);

@@ -1,8 +1,8 @@
-//! Random sessions for the bench program: the same ones for the same seed.
+//! A module: random sessions for the bench program, the same for the same seed.
 //!
-//! A module without a main: the programs that compare include it by
-//! `#[path = "generate.rs"] mod generate;`, so it is built with them. Its
-//! random numbers and some of its choices serve `states.rs` for devices, too.
+//! `compare.rs`, `states.rs`, `measure.rs`, `timings.rs` and the lab's tests
+//! include it. Its random numbers and some of its choices serve `states.rs` for
+//! devices, too.
 
 // Each of these programs uses a part of it.
 #![allow(dead_code)]
@@ -68,6 +68,15 @@ impl Rng {
     pub fn pick<T: Copy>(&mut self, from: &[T]) -> T {
         from[self.below(from.len() as u32) as usize]
     }
+
+    /// Half of them from a few, the others any.
+    pub fn pick_or<T: Copy>(&mut self, few: &[T], any: fn(&mut Rng) -> T) -> T {
+        if self.chance(1, 2) {
+            self.pick(few)
+        } else {
+            any(self)
+        }
+    }
 }
 
 // ---- Records -------------------------------------------------------------
@@ -131,11 +140,7 @@ impl Session {
 fn address(rng: &mut Rng) -> u16 {
     const FEW: [u16; 12] =
         [0, 1, 2, 0x000B, 0x006B, 0x00FF, 0x0100, 0x1000, 0x1001, 0xFF6B, 0xFFFE, 0xFFFF];
-    if rng.chance(1, 2) {
-        rng.pick(&FEW)
-    } else {
-        rng.word()
-    }
+    rng.pick_or(&FEW, Rng::word)
 }
 
 /// Mostly short; some go past a byte, and some don't end.
@@ -172,11 +177,7 @@ fn dma_port(rng: &mut Rng, zilog: bool) -> u16 {
 fn other_port(rng: &mut Rng) -> u16 {
     const NEAR: [u16; 10] =
         [0x006A, 0x006C, 0x000A, 0x000C, 0x002B, 0x004B, 0x00EB, 0x008B, 0x6B00, 0x0B00];
-    if rng.chance(1, 2) {
-        rng.pick(&NEAR)
-    } else {
-        rng.word()
-    }
+    rng.pick_or(&NEAR, Rng::word)
 }
 
 /// One less, the number, or one more.

@@ -1,6 +1,7 @@
-//! What accepted grants came to, counted by question and answer: comparing
-//! long grants is worth something only if they reach what can go wrong in one.
-//! A module without a main: `states.rs` includes it.
+//! A module: what accepted grants came to, counted by question and answer.
+//!
+//! Comparing long grants is worth something only if they reach what can go
+//! wrong in one. `states.rs` includes it.
 
 #![forbid(unsafe_code)]
 

@@ -1,14 +1,20 @@
-//! Compares how the device and its answers lie in memory: in Rattle, in C and
-//! in Rust, every struct by its size and every field by its name, type, place
-//! in the order, offset and size.
+//! A program: compares the layout of the device in Rattle, C and Rust.
+//!
+//! How the device and its answers lie in memory: every struct by its size and
+//! every field by its name, type, place in the order, offset and size.
 //!
 //! Rattle: the declarations are read, and laid out as `repr(C)` says.
 //! C: the declarations are read, and the offsets and sizes that the header
 //! asserts; the C and C++ compilers check these wherever it is included.
 //! Rust: the compiler is asked, about values that the library gives.
+//!
+//! Built by `rustc --edition 2021 -O -L native=target/staticlib layout.rs`,
+//! from this folder or with its path; `layout --help` says how it is run.
 
 #![deny(unsafe_code)]
 
+#[path = "program.rs"]
+mod program;
 #[path = "../../rust/zxndma/src/lib.rs"]
 mod zxndma;
 
@@ -18,9 +24,18 @@ use std::fmt;
 use std::mem::{size_of, size_of_val};
 use std::process::ExitCode;
 
-const USAGE: &str = "usage: layout HEADER RATTLE...
-Compares the structs of the C header, of the Rattle sources and of the wrapper.
-The Rattle sources come in the order of their crates, the device's the last.";
+const HELP: &str = "\
+usage: layout HEADER RATTLE...
+Compares the structs of the C header, of the Rattle sources and of the wrapper
+for Rust, and prints how many structs and fields there are, or what differs.
+
+  HEADER  include/zxndma.h
+  RATTLE  sources with structs, in the order of their crates, the device's last:
+          crates/rules/src/lib.rt crates/zxndma/src/lib.rt
+
+Exit status: 0 the same; 1 a difference, or a file can't be read or understood;
+2 bad arguments.
+";
 
 #[derive(PartialEq)]
 struct Field {
@@ -277,8 +292,8 @@ fn differences(rattle: &Layout, language: &str, other: &Layout) -> Vec<String> {
     lines
 }
 
-/// The lines to print, if all is the same, or those that say what is not.
-fn compare(header: &str, sources: &[String]) -> Result<String, String> {
+/// The line to print, if all is the same, or those that say what is not.
+fn compare(header: &str, sources: &[&str]) -> Result<String, String> {
     let texts: Result<Vec<String>, String> = sources.iter().map(|path| text(path)).collect();
     let rattle = rattle_layout(&texts?)?;
     let mut lines = differences(&rattle, "C", &c_layout(&text(header)?)?);
@@ -295,23 +310,11 @@ fn text(path: &str) -> Result<String, String> {
 }
 
 fn main() -> ExitCode {
-    let arguments: Vec<String> = std::env::args().skip(1).collect();
-    if arguments.iter().any(|argument| argument == "--help") {
-        println!("{}", USAGE);
-        return ExitCode::SUCCESS;
-    }
-    if arguments.len() < 2 {
-        eprintln!("{}", USAGE);
-        return ExitCode::from(2);
-    }
-    match compare(&arguments[0], &arguments[1..]) {
-        Ok(line) => {
-            println!("layout: {}", line);
-            ExitCode::SUCCESS
+    program::main("layout", HELP, |words| match words {
+        [header, sources @ ..] if !sources.is_empty() => {
+            println!("layout: {}", compare(header, sources).map_err(|lines| (1, lines))?);
+            Ok(())
         }
-        Err(lines) => {
-            eprintln!("layout: {}", lines);
-            ExitCode::FAILURE
-        }
-    }
+        _ => Err(program::bad_usage("a header and Rattle sources are needed".into())),
+    })
 }

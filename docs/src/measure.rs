@@ -1,6 +1,7 @@
-//! Measures the linked library against plain Rust, in one process: blocks
-//! against `stepping.rs`, which takes every clock singly, and `events.rs`,
-//! which takes them together; calls against the second program,
+//! A program: measures the linked library against plain Rust, in one process.
+//!
+//! Blocks against `stepping.rs`, which takes every clock singly, and
+//! `events.rs`, which takes them together; calls against the second program,
 //! `reference.rs`. All must leave the same device, memory and latches.
 //!
 //! Built by `rustc --edition 2021 -O -L native=target/staticlib measure.rs`,
@@ -13,6 +14,8 @@
 mod events;
 #[path = "generate.rs"]
 mod generate;
+#[path = "program.rs"]
+mod program;
 #[path = "reference.rs"]
 mod reference;
 #[path = "stepping.rs"]
@@ -21,6 +24,7 @@ mod stepping;
 mod zxndma;
 
 use generate::Rng;
+use program::{bad_usage, Failure};
 use reference::model;
 use std::process::ExitCode;
 use std::time::{Duration, Instant};
@@ -28,10 +32,9 @@ use stepping::clock::{self, Bytes, State, MUSIC_CLOCKS, NO_SLOT};
 use zxndma::Device;
 
 const HELP: &str = "\
-measure [--rounds N]      measures all, in N rounds (5)
-measure --check           a short run: rough figures, the same requirements
-measure --calls KIND N    makes N calls of a kind, and measures nothing
-
+usage: measure [--rounds N]      measures all, in N rounds (5)
+       measure --check           a short run: rough figures, the same requirements
+       measure --calls KIND N    makes N calls of a kind, and measures nothing
 Measures the linked library against plain Rust in one process. The contestants
 take turns in each round, and the fastest time of each counts. Printed are times
 in nanoseconds, their ratio, and the ratio aimed at. The contestants:
@@ -57,9 +60,6 @@ kind names no mode is to a disabled device. A call of music is the whole block.
 
 Exit status: 0 done; 1 a requirement is not met; 2 bad arguments.
 ";
-
-/// The exit status and what to say.
-type Failure = (u8, String);
 
 // ---- What is lent and left -----------------------------------------------
 
@@ -193,11 +193,7 @@ fn accepted_left(state: &State) -> Left {
 
 /// Half of them at the ends, so that pointers wrap.
 fn made_address(rng: &mut Rng) -> u16 {
-    if rng.chance(1, 2) {
-        rng.pick(&[0, 1, 2, 0xFFFD, 0xFFFE, 0xFFFF])
-    } else {
-        rng.word()
-    }
+    rng.pick_or(&[0, 1, 2, 0xFFFD, 0xFFFE, 0xFFFF], Rng::word)
 }
 
 fn made_port(rng: &mut Rng) -> clock::Port {
@@ -761,7 +757,7 @@ fn only_calls(name: &str, calls: u32) -> Result<(), Failure> {
     } else {
         let mut known = kinds().into_iter().chain([many_clocks()]);
         let kind = known.find(|kind| kind.name == name);
-        let kind = kind.ok_or_else(|| (2, format!("{name} is not a kind of call; see --help")))?;
+        let kind = kind.ok_or_else(|| bad_usage(format!("{name} is not a kind of call")))?;
         let mut library = Library { device: device_of_model(&kind.start) };
         let bytes = if matches!(kind.call, Call::Write) { written_bytes() } else { Vec::new() };
         let mut written = bytes.iter().copied().cycle();
@@ -811,31 +807,19 @@ fn hold_contests(extent: &Extent) -> Result<(), String> {
 /// A number from 1 up.
 fn number(word: &str) -> Result<u32, Failure> {
     let number = word.parse().ok().filter(|&number| number > 0);
-    number.ok_or_else(|| (2, format!("{word} is not a number from 1 up; see --help")))
+    number.ok_or_else(|| bad_usage(format!("{word} is not a number from 1 up")))
 }
 
 fn run(words: &[&str]) -> Result<(), Failure> {
     match *words {
-        ["--help"] => {
-            print!("{HELP}");
-            Ok(())
-        }
         [] => measure(FULL),
         ["--rounds", rounds] => measure(Extent { rounds: number(rounds)?, ..FULL }),
         ["--check"] => measure(SHORT),
         ["--calls", kind, calls] => only_calls(kind, number(calls)?),
-        _ => Err((2, format!("these arguments are not understood: {words:?}; see --help"))),
+        _ => Err(bad_usage(format!("these arguments are not understood: {words:?}"))),
     }
 }
 
 fn main() -> ExitCode {
-    let given: Vec<String> = std::env::args().skip(1).collect();
-    let words: Vec<&str> = given.iter().map(String::as_str).collect();
-    match run(&words) {
-        Ok(()) => ExitCode::SUCCESS,
-        Err((status, text)) => {
-            eprintln!("measure: {text}");
-            ExitCode::from(status)
-        }
-    }
+    program::main("measure", HELP, run)
 }

@@ -1,5 +1,6 @@
-//! Runs a program on a session. A module without a main: `compare.rs` and
-//! `timings.rs` include it.
+//! A module: runs a program on a session.
+//!
+//! `compare.rs`, `timings.rs` and the lab's tests include it.
 
 #![forbid(unsafe_code)]
 

@@ -1,6 +1,8 @@
-//! A second model of the zxnDMA, slow and obvious: it takes every clock
-//! singly. It shares nothing with the product but the papers, so that the
-//! two can be compared. "01" below is the paper with the rules.
+//! The second program, also a module: a model of the zxnDMA, slow and obvious.
+//!
+//! It takes every clock singly. It shares nothing with the product but the
+//! papers, so that the two can be compared. "01" below is the paper with the
+//! rules.
 //!
 //! Built alone it is a bench program: a session on standard input, its lines
 //! on standard output. Another program can also include it as a module.
@@ -650,8 +652,32 @@ pub mod session {
     }
 }
 
-/// Reads a session to its end and writes its lines.
+const HELP: &str = "\
+usage: reference <SESSION
+The second program: a model of the zxnDMA that takes every clock singly. Reads a
+session of the bench program, in binary, from standard input and writes its lines
+to standard output. It needs nothing; docs/src/session-bytes makes such sessions.
+Exit status: 0 written, faults of the session too; 1 it can't read or write; 2 bad
+arguments.
+";
+
+/// Answers `--help`; without arguments it runs a session.
 fn main() -> ExitCode {
+    match std::env::args().nth(1).as_deref() {
+        None => run_session(),
+        Some("-h" | "--help") => {
+            print!("{HELP}");
+            ExitCode::SUCCESS
+        }
+        Some(_) => {
+            eprintln!("reference: no argument is expected; see --help");
+            ExitCode::from(2)
+        }
+    }
+}
+
+/// Reads a session to its end and writes its lines.
+fn run_session() -> ExitCode {
     let mut input = Vec::new();
     if let Err(error) = std::io::stdin().read_to_end(&mut input) {
         eprintln!("reading the session: {}", error);

@@ -1,9 +1,13 @@
-//! Compares the linked library with the second program: on devices of any
-//! content, with any port, byte, clocks and buffers, and on sessions. Every
-//! answer is compared whole: number, byte, each field of the device, and
-//! after a grant both buffers, in a session after every record. The sessions
-//! of a seed are those that `compare.rs` makes of it. What the grants came to
-//! is counted.
+//! A program: compares the linked library with the second program, call by call.
+//!
+//! On devices of any content, with any port, byte, clocks and buffers, and on
+//! sessions. Every answer is compared whole: number, byte, each field of the
+//! device, and after a grant both buffers, in a session after every record.
+//! The sessions of a seed are those that `compare.rs` makes of it. What the
+//! grants came to is counted.
+//!
+//! Built by `rustc --edition 2021 -O -L native=target/staticlib states.rs`,
+//! from this folder or with its path; `states --help` says how it is run.
 
 #![deny(unsafe_code)]
 
@@ -11,6 +15,8 @@
 mod generate;
 #[path = "grants.rs"]
 mod grants;
+#[path = "program.rs"]
+mod program;
 #[path = "reference.rs"]
 mod reference;
 #[path = "stored.rs"]
@@ -28,11 +34,16 @@ use zxndma::{Block, Clocks, Control, Core, Device, Pending, Port, Readback, Slot
 const CALLS: u64 = 1_000_000;
 const SESSIONS: u64 = 5_000;
 
-const USAGE: &str = "usage: states [--calls N] [--sessions N] [--seed N]... [FILE.hex]...
-Compares the linked library with the second program, for each seed by N calls
+const HELP: &str = "\
+usage: states [--calls N] [--sessions N] [--seed N]... [FILE.hex]...
+Compares the linked library with the second program, for each seed (1) by N calls
 on made devices (1000000) and N made sessions (5000), and on the stored sessions.
-Fails at the first difference, or if some refusal never occurred, or, with as
-many calls or sessions as these, some case of a long grant.";
+Prints how often each number was answered, and what the grants came to.
+
+Exit status: 0 no difference; 1 a difference, which is shown, or a number that a
+call can answer never came, or, with as many calls or sessions as these, some
+case of a long grant, or a FILE can't be read; 2 bad arguments.
+";
 
 // ---- Both sides ----------------------------------------------------------
 
@@ -318,11 +329,7 @@ impl Bench {
 /// Half of them from the edges.
 fn byte(rng: &mut Rng) -> u8 {
     const EDGES: [u8; 18] = [0, 1, 2, 3, 4, 5, 6, 7, 8, 9, 10, 11, 126, 127, 128, 129, 254, 255];
-    if rng.chance(1, 2) {
-        rng.pick(&EDGES)
-    } else {
-        rng.byte()
-    }
+    rng.pick_or(&EDGES, Rng::byte)
 }
 
 /// Half of them from the edges: of addresses, lengths and slots.
@@ -331,11 +338,7 @@ fn word(rng: &mut Rng) -> u16 {
         0, 1, 2, 3, 4, 5, 7, 8, 9, 16, 31, 32, 33, 48, 64, 0x00FF, 0x0100, 8_128, 8_159, 8_160,
         8_161, 8_192, 0xFFFE, 0xFFFF,
     ];
-    if rng.chance(1, 2) {
-        rng.pick(&EDGES)
-    } else {
-        rng.word()
-    }
+    rng.pick_or(&EDGES, Rng::word)
 }
 
 /// For a block count: about it, about the largest, or anything.
@@ -606,11 +609,7 @@ fn made_port(rng: &mut Rng) -> u16 {
 fn made_byte(rng: &mut Rng) -> u8 {
     const COMMANDS: [u8; 14] =
         [0x83, 0x87, 0x87, 0xC0, 0x80, 0xC3, 0xC7, 0xCB, 0xCF, 0xD3, 0x8B, 0xBF, 0xA7, 0xBB];
-    if rng.chance(1, 2) {
-        rng.pick(&COMMANDS)
-    } else {
-        rng.byte()
-    }
+    rng.pick_or(&COMMANDS, Rng::byte)
 }
 
 fn made_length(rng: &mut Rng) -> usize {
@@ -796,21 +795,21 @@ struct Options {
 }
 
 /// The options, or what is wrong with them.
-fn options(mut words: impl Iterator<Item = String>) -> Result<Options, String> {
+fn options(words: &[&str]) -> Result<Options, String> {
     let mut options =
         Options { calls: CALLS, sessions: SESSIONS, seeds: Vec::new(), paths: Vec::new() };
-    while let Some(word) = words.next() {
-        if !word.starts_with("--") {
-            options.paths.push(word);
-            continue;
-        }
-        let value = words.next().ok_or(format!("{} asks for a number", word))?;
-        let number = value.parse().map_err(|_| format!("{}: {} is not a number", word, value))?;
-        match word.as_str() {
-            "--calls" => options.calls = number,
-            "--sessions" => options.sessions = number,
-            "--seed" => options.seeds.push(number),
-            _ => return Err(format!("{} is not an option", word)),
+    let mut words = words.iter();
+    while let Some(&word) = words.next() {
+        let mut number = || {
+            let value = words.next().ok_or(format!("{word} asks for a number"))?;
+            value.parse().map_err(|_| format!("{word}: {value} is not a number"))
+        };
+        match word {
+            "--calls" => options.calls = number()?,
+            "--sessions" => options.sessions = number()?,
+            "--seed" => options.seeds.push(number()?),
+            _ if word.starts_with('-') => return Err(format!("{word} is not an option")),
+            _ => options.paths.push(word.to_string()),
         }
     }
     if options.seeds.is_empty() {
@@ -853,26 +852,9 @@ fn compare(options: &Options) -> Result<String, String> {
 }
 
 fn main() -> ExitCode {
-    let words: Vec<String> = std::env::args().skip(1).collect();
-    if words.iter().any(|word| word == "--help") {
-        println!("{}", USAGE);
-        return ExitCode::SUCCESS;
-    }
-    let options = match options(words.into_iter()) {
-        Ok(options) => options,
-        Err(fault) => {
-            eprintln!("states: {}\n{}", fault, USAGE);
-            return ExitCode::from(2);
-        }
-    };
-    match compare(&options) {
-        Ok(summary) => {
-            println!("{}", summary);
-            ExitCode::SUCCESS
-        }
-        Err(fault) => {
-            eprintln!("states: FAILED: {}", fault);
-            ExitCode::FAILURE
-        }
-    }
+    program::main("states", HELP, |words| {
+        let options = options(words).map_err(program::bad_usage)?;
+        println!("{}", compare(&options).map_err(|fault| (1, format!("FAILED: {fault}")))?);
+        Ok(())
+    })
 }

@@ -1,14 +1,18 @@
-//! A zxnDMA that takes one clock at a time, in plain Rust: in place, and with
-//! nothing carried from one clock to the next but the state. It has what clocks
-//! need of the device, and no port writes or reads. Its rules are those of one
-//! clock in docs/RULES.md, and its states are valid ones.
+//! A program and a module: a zxnDMA that takes one clock at a time.
+//!
+//! In plain Rust, in place, and with nothing carried from one clock to the next
+//! but the state. It has what clocks need of the device, and no port writes or
+//! reads. Its rules are those of one clock in docs/RULES.md, and its states are
+//! valid ones.
 //!
 //! Built alone, by `rustc --edition 2021 -O stepping.rs`, it runs a block of
-//! music; `stepping --help` says how. Another program can also include it as
-//! a module.
+//! music; `stepping --help` says how. `measure.rs` includes it.
 
 #![allow(dead_code)]
 #![forbid(unsafe_code)]
+
+#[path = "program.rs"]
+mod program;
 
 use clock::Bytes;
 use std::process::ExitCode;
@@ -151,7 +155,8 @@ pub mod clock {
             Slot { elapsed: 0, bus, length, burst: self.control.burst }
         }
 
-        fn move_byte(&mut self, memory: &mut Bytes, latches: &mut Bytes) {
+        /// A byte moves from source to destination, and both pointers step.
+        pub fn move_byte(&mut self, memory: &mut Bytes, latches: &mut Bytes) {
             let (source, destination) =
                 if self.control.forward { (&self.a, &self.b) } else { (&self.b, &self.a) };
             let from = if source.io { &*latches } else { &*memory };
@@ -165,7 +170,7 @@ pub mod clock {
         }
 
         /// What follows a slot's last clock.
-        fn end_slot(&mut self) {
+        pub fn end_slot(&mut self) {
             self.slot = NO_SLOT;
             if !self.finished() {
                 return;
@@ -212,9 +217,10 @@ pub mod clock {
 }
 
 const HELP: &str = "\
-stepping
+usage: stepping
+Runs a zxnDMA in plain Rust that takes one clock at a time. It needs nothing.
 
-Runs a block of music, 65,536 bytes from memory to an I/O port in burst at
+What it runs is a block of music, 65,536 bytes from memory to an I/O port in burst at
 prescaler 55: 115,343,360 clocks, one at a time. Prints the clock counts and
 the bytes moved.
 
@@ -232,14 +238,11 @@ fn run_music() {
 }
 
 fn main() -> ExitCode {
-    let given: Vec<String> = std::env::args().skip(1).collect();
-    match &given[..] {
-        [] => run_music(),
-        [help] if help == "--help" => print!("{HELP}"),
-        [first, ..] => {
-            eprintln!("stepping: {first} is not an option; see --help");
-            return ExitCode::from(2);
+    program::main("stepping", HELP, |words| match words.first() {
+        None => {
+            run_music();
+            Ok(())
         }
-    }
-    ExitCode::SUCCESS
+        Some(word) => Err(program::bad_usage(format!("{word} is not an option"))),
+    })
 }

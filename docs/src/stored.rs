@@ -1,5 +1,6 @@
-//! Reads a stored session, as `docs/sessions` has them. A module without a
-//! main: `compare.rs` and `states.rs` include it.
+//! A module: reads a stored session, as `docs/sessions` has them.
+//!
+//! `compare.rs` and `states.rs` include it.
 
 #![forbid(unsafe_code)]
 

@@ -1,7 +1,7 @@
-//! Measures the bench program against the second program, `reference.rs`
-//! built alone, on long sessions, and sees that their lines are the same.
+//! A program: times the bench program against the second, `reference.rs`.
 //!
-//! Built by `rustc --edition 2021 -O timings.rs`, from this folder or with
+//! On long sessions, with `reference.rs` built alone. It sees that their lines
+//! are the same. Built by `rustc --edition 2021 -O timings.rs`, from this folder or with
 //! its path; `timings --help` says how it is run.
 
 #![forbid(unsafe_code)]
@@ -10,13 +10,20 @@
 mod generate;
 #[path = "process.rs"]
 mod process;
+#[path = "program.rs"]
+mod program;
 
 use generate::Session;
+use program::Failure;
 use std::process::ExitCode;
 use std::time::{Duration, Instant};
 
 const HELP: &str = "\
-timings BENCH REFERENCE
+usage: timings BENCH REFERENCE
+Times the bench program against the second program, docs/src/reference.rs.
+
+  BENCH      the bench program: target/bin/bench, as `rt check bench` leaves it
+  REFERENCE  the second program, built by `rustc --edition 2021 -O reference.rs`
 
 Runs both programs on the same sessions, in turn, five times each, and prints
 for each session the fastest time of each and the ratio BENCH / REFERENCE. The
@@ -29,9 +36,6 @@ Exit status: 0 measured; 1 the programs wrote different lines, or one failed;
 const RUNS: u32 = 5;
 const MILLION: usize = 1_000_000;
 const PORT: u16 = 0x006B;
-
-/// The exit status and what to say.
-type Failure = (u8, String);
 
 // ---- Sessions ------------------------------------------------------------
 
@@ -126,20 +130,11 @@ fn measure(programs: [&str; 2]) -> Result<(), Failure> {
 }
 
 fn main() -> ExitCode {
-    let given: Vec<String> = std::env::args().skip(1).collect();
-    let done = match &given[..] {
-        [help] if help == "--help" => {
-            print!("{HELP}");
-            Ok(())
-        }
+    program::main("timings", HELP, |words| match *words {
         [bench, reference] => measure([bench, reference]),
-        _ => Err((2, format!("two arguments are needed, {} given; see --help", given.len()))),
-    };
-    match done {
-        Ok(()) => ExitCode::SUCCESS,
-        Err((status, text)) => {
-            eprintln!("timings: {text}");
-            ExitCode::from(status)
+        _ => {
+            let given = words.len();
+            Err(program::bad_usage(format!("two arguments are needed, {given} given")))
         }
-    }
+    })
 }

@@ -36,8 +36,6 @@ Where something looks like a mistake there is advice: the reason, and what to do
   --as FORM    the form of FILE: text, hex or binary, where the content misleads
 A check that fails is shown with what was found, and the exit status is 1. After
 a fault of the session, or if FILE can't be taken, it is 2.
-
-The text language:
 ";
 
 const ASM_HELP: &str = "\
@@ -45,8 +43,6 @@ usage: lab asm [--as FORM] FILE -o OUT
 Writes a session as the bench takes it, in binary, to OUT; - is standard output.
 'run until done' becomes a grant of so many clocks, and checks are left out.
   --as FORM  the form of FILE: text, hex or binary, where the content misleads
-
-The text language:
 ";
 
 const TEXT_HELP: &str = "\
@@ -54,8 +50,6 @@ usage: lab text [--as FORM] FILE [-o OUT]
 Writes a session as text, with what each line does as a comment. 'lab asm' makes
 the same binary session of it.
   --as FORM  the form of FILE: text, hex or binary, where the content misleads
-
-The text language:
 ";
 
 const TIMELINE_HELP: &str = "\
@@ -68,8 +62,6 @@ Waits of more than 64 clocks, slots that are alike and whatever comes again in t
 same order are folded, with their length. Of a session that is still too long the
 start and the end are shown. However long it is, the picture has less than 64 kB.
 After a fault of the session, or if FILE can't be taken, the exit status is 2.
-
-The text language:
 ";
 
 /// What ends the program early: a message for standard error, or none.
@@ -202,7 +194,7 @@ fn command(words: &[String]) -> Result<u8, End> {
     };
     let arguments = Arguments::read(name, &words[1..])?;
     if arguments.help {
-        writeln!(io::stdout(), "{help}{}", text::LANGUAGE)?;
+        writeln!(io::stdout(), "{help}\n{}", text::LANGUAGE)?;
         return Ok(0);
     }
     command(&arguments)

@@ -15,8 +15,10 @@ use expression::{Expression, Meaning, Names, Position, Words};
 use lexer::Token;
 use std::rc::Rc;
 
-/// The statements, for `lab text --help` and for messages.
+/// The statements, for the help of every command. (The first line is not
+/// indented: a backslash at a line's end takes the blanks behind it too.)
 pub const LANGUAGE: &str = "\
+The text language:
   out PORT, BYTE, ..       write bytes to a port
   otir PORT                write the bytes of the table that follows
   in PORT [, COUNT]        read a port, once or COUNT times

@@ -96,6 +96,9 @@ fn help_and_wrong_arguments() {
         let help = lab(arguments, "");
         assert_eq!(status(&help), 0);
         assert!(said(&help).starts_with("usage: lab "));
+        // Every statement of the language is indented, the first one too.
+        let language = "\n\nThe text language:\n  out PORT, BYTE, ..       write bytes";
+        assert_eq!(said(&help).contains(language), arguments.len() > 1, "{arguments:?}");
     }
     let wrong: [&[&str]; 10] = [
         &[],
