@@ -36,7 +36,7 @@ played xs d s = printed d (run flat flatOutside (entriesOf xs (d .records)) s)
 
 -- a record that was answered: its line, and what follows it
 abbrev pub answerLine : Record → Answer (List ℕ) → List ℕ
-answerLine r a = recordLine (r .number) (a .number) (a .byte)
+answerLine r a = recordLine (r .number) (a .answered .number) (a .answered .byte)
 
 abbrev pub followed : ℕ → List ℕ → Record → Answer (List ℕ) → Ended
 followed most xs r a = lineBefore (answerLine r a) (played xs (decodedFrom most xs (r .next)) (a .system))
