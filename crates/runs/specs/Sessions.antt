@@ -117,8 +117,9 @@ FaultKnown xs = FaultNumber (session xs .fault)
 abbrev pub AllRead : List ℕ → Type 0
 AllRead xs = (more : ℕ) → decodedFrom (more + length xs) xs 1 ≡ decodedFrom (length xs) xs 1
 
--- a session is the run of its calls by definition. So demand 3 holds of its list, and where its bytes are bytes, its device is
--- valid and its grants split
+-- a session is the run of its calls by definition: device and buffers at the end are the run's, the lines are those of the
+-- run's answers, in order, and the last one. So demand 3 holds of its list, and where its bytes are bytes, its device is valid
+-- and its grants split
 pub record SessionRuns (xs : List ℕ) : Type 0 where
   pub accounted : Accounted (sessionEntries xs) (runOf xs) (historyOf xs)
   pub reached : AreBytes xs → Reached (runOf xs) (historyOf xs)

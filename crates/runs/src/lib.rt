@@ -1,1 +1,2 @@
-// Whole sessions: that each is the run of its calls, that it can come in pieces, and how it is written. Specs and proofs, no function.
+// Whole sessions: decoded, run and printed; that steps read them, that they can come in pieces, and how they are written. Specs
+// and proofs, no function.

@@ -1,6 +1,6 @@
 -- A session read a step at a time from the bytes at hand: the version byte, one record, or as much as is at hand of a record
--- that is too long for any kind. A step says how far it came and whether more bytes are needed, and puts at most one line at the front
--- of a borrowed slice.
+-- that is too long for any kind. A step says how far it came and whether more bytes are needed, and puts at most one line at
+-- the front of a borrowed slice.
 -- Assumes nothing.
 use Prim.Native.Nat.{ℕ, _+_, _-_}
 use mathlib.Core.Bool.{Bool}
