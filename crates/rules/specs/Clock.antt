@@ -11,6 +11,7 @@ use Rattle.rules.specs.Ports.{advanced}
 use Rattle.rules.specs.Blocks.{blockCount, finished}
 use Rattle.rules.specs.Slots.{noSlot}
 use Rattle.rules.specs.Commands.{blockEnded, disable, load}
+use Rattle.rules.specs.declared.Port.{Port}
 use Rattle.rules.specs.declared.Slot.{Slot}
 use Rattle.rules.specs.declared.Clocks.{Clocks}
 use Rattle.rules.specs.declared.Core.{Core}
@@ -58,11 +59,14 @@ newSlot c =
       burst = c .control .burst;
     }
 
--- the core after a byte has moved: both pointers stepped, the counter one more, T set
+-- the core after n bytes, one at least, with the ports behind them: the counter n more, T set
+abbrev pub afterBytes : ℕ → Port → Port → Core → Core
+afterBytes n a b c =
+    withA a (withB b (withBlock (withCounter (c .block .counter + n) (c .block)) (withStatus (withT true (c .status)) c)))
+
+-- the core after a byte has moved: both pointers stepped
 abbrev pub moved : Core → Core
-moved c =
-    withA (advanced (c .a))
-    (withB (advanced (c .b)) (withBlock (withCounter (c .block .counter + 1) (c .block)) (withStatus (withT true (c .status)) c)))
+moved c = afterBytes 1 (advanced (c .a)) (advanced (c .b)) c
 
 -- this many clocks of the slot have elapsed
 abbrev pub withElapsed : ℕ → Core → Core

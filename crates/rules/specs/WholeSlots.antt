@@ -6,11 +6,10 @@ use mathlib.Core.Bool.{Bool, true, not}
 use mathlib.Core.List.{[], _∷_}
 use lib.Dec.{eqb, ltb}
 use Rattle.rules.specs.Choice.{pick, every}
-use Rattle.rules.specs.Parts.{withCounter, withT, withA, withB, withBlock, withStatus}
 use Rattle.rules.specs.Ports.{advancedBy}
 use Rattle.rules.specs.Blocks.{blockCount, finished}
 use Rattle.rules.specs.Facts.{Kept}
-use Rattle.rules.specs.Clock.{busClock, countedBy, newSlot, waitKind, slotEnd}
+use Rattle.rules.specs.Clock.{busClock, countedBy, newSlot, afterBytes, waitKind, slotEnd}
 use Rattle.rules.specs.Buffers.{Store, Buffers, source, destination, transfer}
 use Rattle.rules.specs.World.{System, system, clocked}
 use Rattle.rules.specs.Stretches.{least}
@@ -30,9 +29,7 @@ slotsWithin c budget =
 
 -- the core after k bytes, one at least
 abbrev pub movedBy : ℕ → Core → Core
-movedBy k c =
-    withA (advancedBy k (c .a))
-    (withB (advancedBy k (c .b)) (withBlock (withCounter (c .block .counter + k) (c .block)) (withStatus (withT true (c .status)) c)))
+movedBy k c = afterBytes k (advancedBy k (c .a)) (advancedBy k (c .b)) c
 
 -- the clocks of k slots counted
 abbrev pub slotsCounted : ℕ → Slot → Clocks → Clocks

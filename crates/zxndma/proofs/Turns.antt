@@ -6,15 +6,15 @@ use native.Mathlib.Omega.{arith}
 use mathlib.Core.Path.{_≡_, sym, _∙_, ap, subst}
 use mathlib.Core.Bool.{true, false}
 use mathlib.Core.List.{List}
-use Rattle.rules.specs.Parts.{withCounter, withT, withA, withB, withBlock, withStatus, withSlot}
+use Rattle.rules.specs.Parts.{withSlot}
 use Rattle.rules.specs.Validity.{total, most64}
 use Rattle.rules.specs.Facts.{InRange}
-use Rattle.rules.specs.Clock.{cpuClock, newSlot, kindAt, slotEnd}
+use Rattle.rules.specs.Clock.{cpuClock, newSlot, afterBytes, kindAt, slotEnd}
 use Rattle.rules.specs.Buffers.{flat}
 use Rattle.rules.specs.World.{System, system, buffersAfter, clocked}
 use Rattle.rules.specs.Spans.{kindOf, IsSpan}
 use Rattle.rules.specs.Stretches.{slotOf, elapsedBy}
-use Rattle.rules.specs.WholeSlots.{movedBy, slotsWithin, slotsPassed}
+use Rattle.rules.specs.WholeSlots.{slotsWithin, slotsCounted, slotsPassed}
 use Rattle.rules.specs.Turns.{Ready, Passed}
 use Rattle.rules.specs.Refusals.{grantRefusal}
 use Rattle.rules.specs.declared.Port.{Port}
@@ -79,15 +79,15 @@ module _ {c : Core} {k : Clocks} {left slots : ℕ} (r : Ready c k left) (e : sl
   pub slots-put :
       {m l m′ l′ : List ℕ} {next : Core} {a b : Port} {k′ : Clocks} {slot : Slot} → slot ≡ newSlot c
       → BytesMoved c slots (borrowed m l) (borrowed m′ l′) a b
-      → next ≡ slotEnd (withA a (withB b (withBlock (withCounter (c .block .counter + slots) (c .block)) (withStatus (withT true (c .status)) c)))) .core
+      → next ≡ slotEnd (afterBytes slots a b c) .core
       → k′ ≡ slotsCountedWithin slots slot k → made m′ l′ next k′ ≡ slotsPassed flat slots (made m l c k)
-  slots-put {m} {l} {m′} {l′} {a = a} {b} s d x y =
-      λ i. made (d .buffers i .memory) (d .buffers i .latches) ((x ∙ ended d) i)
-      ((y ∙ ap (λ (v : Slot). slotsCountedWithin slots v k) s ∙ slots-counted-all slots (newSlot c) k (ready-starts r e h .fits) (omega (arith, r .room, ready-run r e h .within))) i)
+  slots-put s d x y =
+      λ i. made (d .buffers i .memory) (d .buffers i .latches)
+      ((x ∙ (λ j. slotEnd (afterBytes slots (d .a j) (d .b j) c) .core)) i)
+      ((y ∙ ap (λ (v : Slot). slotsCountedWithin slots v k) s ∙ all) i)
     where
-      -- the ports are those of the bytes moved
-      ended : BytesMoved c slots (borrowed m l) (borrowed m′ l′) a b → slotEnd (withA a (withB b (withBlock (withCounter (c .block .counter + slots) (c .block)) (withStatus (withT true (c .status)) c)))) .core ≡ slotEnd (movedBy slots c) .core
-      ended d = λ j. slotEnd (withA (d .a j) (withB (d .b j) (withBlock (withCounter (c .block .counter + slots) (c .block)) (withStatus (withT true (c .status)) c)))) .core
+      all : slotsCountedWithin slots (newSlot c) k ≡ slotsCounted slots (newSlot c) k
+      all = slots-counted-all slots (newSlot c) k (ready-starts r e h .fits) (omega (arith, r .room, ready-run r e h .within))
 
   pub slots-passed : {m l : List ℕ} {t : System (List ℕ)} {left′ : ℕ} → t ≡ slotsPassed flat slots (made m l c k) → left′ ≡ left - slots * newSlot c .length → Passed flat (made m l c k) t left left′
   slots-passed {m} {l} {t} x y =
