@@ -19,7 +19,7 @@ use Rattle.rules.specs.History.{zeroing}
 use Rattle.rules.specs.Accounts.{heldBefore}
 use Rattle.rules.specs.Opened.{opened}
 use Rattle.rules.specs.declared.Core.{Core}
-use Rattle.rules.proofs.Choice.{clash, pick-cases, pick-both, pick-true, pick-false, either, any-first, any-more, any-cases, any-none}
+use Rattle.rules.proofs.Choice.{clash, pick-cases, pick-both, below, _⨾_, table, pick-true, pick-false, either, any-first, any-more, any-cases, any-none}
 
 -- the counter is as it was
 abbrev Same : Core → Core → Type 0
@@ -119,8 +119,7 @@ write-same port byte c z = other-effect byte (inMode port c) z
 -- an accepted read
 pub read-same : (c : Core) → Same c (readByte c .core)
 unfolding readByte
-read-same c =
-    pick-both (λ (b : Byte). Same c (b .core)) _ _ _ refl (pick-both (λ (b : Byte). Same c (b .core)) _ _ _ refl refl)
+read-same c = table (λ (b : Byte). Same c (b .core)) (refl ⨾ refl ⨾ below refl)
 
 -- ---- one clock
 

@@ -1,6 +1,6 @@
 -- All definitions that branch, opened at once: a proof that computes says `unfolding opened`.
 -- Assumes nothing.
-use Rattle.rules.specs.Choice.{pick, every, any, means, firstHit}
+use Rattle.rules.specs.Choice.{pick, firstOf, every, any, means, firstHit}
 use Rattle.rules.specs.Ports.{cycleOf, stepped}
 use Rattle.rules.specs.Blocks.{blockCount, finished}
 use Rattle.rules.specs.Slots.{waiting, busHeld, unmoved}
@@ -18,5 +18,5 @@ use Rattle.rules.specs.Entries.{poked, run}
 use Rattle.rules.specs.History.{zeroing, writePassed, unlessRefused, clocksPassed, history}
 
 unfoldable pub opened : Unit {0}
-unfolding pick every any means firstHit cycleOf stepped blockCount finished waiting busHeld unmoved ask follows validPending validPort validReadback restingSlot validLength runningSlot validSlot validProgress validCore valid enable readingCommand command wr3 register parameter effect statusByte registerByte after seek readByte slotLength movedAt kindAt slotEnd clockEnd slotClock firstClock clockOf source destination byteAt put buffersAfter clocked accessRefusal lentRefusal grantRefusal writeReply readReply grant poked run zeroing writePassed unlessRefused clocksPassed history placed
+unfolding pick firstOf every any means firstHit cycleOf stepped blockCount finished waiting busHeld unmoved ask follows validPending validPort validReadback restingSlot validLength runningSlot validSlot validProgress validCore valid enable readingCommand command wr3 register parameter effect statusByte registerByte after seek readByte slotLength movedAt kindAt slotEnd clockEnd slotClock firstClock clockOf source destination byteAt put buffersAfter clocked accessRefusal lentRefusal grantRefusal writeReply readReply grant poked run zeroing writePassed unlessRefused clocksPassed history placed
 opened = tt
