@@ -4,5 +4,6 @@ pub mod part;
 pub mod pending;
 pub mod port;
 pub mod refusal;
+pub mod selection;
 pub mod slot;
 pub mod valid;
