@@ -6,6 +6,7 @@ use mathlib.Core.Path.{_≡_}
 use mathlib.Core.Bool.{Bool, true, false}
 use mathlib.Core.List.{List, [], _∷_, _++_}
 use Rattle.rules.specs.Parts.{withCycle, withCounter, withMask, withPosition, withA, withB, withBlock, withReadback, withPending, withSlot}
+use Rattle.rules.specs.Pending.{codes}
 use Rattle.rules.specs.declared.Core.{Core}
 use Rattle.rules.specs.Clock.{slotLength}
 use Rattle.rules.specs.Bytes.{lowByte, highByte}
@@ -31,7 +32,7 @@ idle =
 
 -- a core with these codes pending
 abbrev pub awaiting : ℕ → ℕ → ℕ → ℕ → Core → Core
-awaiting a b d e c = withPending (record { first = a; second = b; third = d; fourth = e }) c
+awaiting a b d e c = withPending (codes a b d e) c
 
 -- a core in this slot
 abbrev pub inSlot : ℕ → ℕ → ℕ → Bool → Core → Core

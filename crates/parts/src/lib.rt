@@ -6,5 +6,6 @@ pub mod pending;
 pub mod port;
 pub mod power_on;
 pub mod refusal;
+pub mod selection;
 pub mod slot;
 pub mod valid;

@@ -1,6 +1,8 @@
-// The pending parameters: codes, the next one first. No other module looks into the sequence.
+// The pending parameters: codes, the next one first. No other module looks into the sequence: what is next, and what is
+// pending after a byte, is all that they ask.
 ghost use mathlib.Core.Path.{_≡_};
-ghost use Rattle.rules.specs.Pending.{nothing, isPending, next, rest, ask, wr0Asks, wr1Asks, wr2Asks, wr4Asks, maskAsked, follows, validPending};
+ghost use Rattle.rules.specs.Pending.{nothing, isPending, next, rest, ask, wr0Asks, wr1Asks, wr2Asks, wr4Asks, maskAsked, asked, usedUp, pendingAfter, follows, validPending};
+use crate::selection;
 use rules::Pending;
 
 // The codes, in the order of the register table.
@@ -51,7 +53,7 @@ pub fn next_code(p: Pending) -> u8
 }
 
 // Those after the next one.
-pub fn after_first(p: Pending) -> Pending
+fn after_first(p: Pending) -> Pending
     ensures { λ r. ⌜ r ≡ rest p ⌝ }
 {
     Pending {
@@ -63,7 +65,7 @@ pub fn after_first(p: Pending) -> Pending
 }
 
 // With one more in front where `wanted` holds.
-pub fn asked(wanted: bool, code: u8, p: Pending) -> Pending
+fn ask_for(wanted: bool, code: u8, p: Pending) -> Pending
     ensures { λ r. ⌜ r ≡ ask wanted code p ⌝ }
 {
     if wanted {
@@ -78,39 +80,39 @@ pub fn asked(wanted: bool, code: u8, p: Pending) -> Pending
 }
 
 // What WR0 asks for.
-pub fn wr0_asks(byte: u8) -> Pending
+fn wr0_asks(byte: u8) -> Pending
     ensures { λ r. ⌜ r ≡ wr0Asks byte ⌝ }
 {
-    let last = asked(byte / 64 % 2 == 1, LENGTH_HIGH, none());
-    let third = asked(byte / 32 % 2 == 1, LENGTH_LOW, last);
-    let second = asked(byte / 16 % 2 == 1, A_HIGH, third);
-    asked(byte / 8 % 2 == 1, A_LOW, second)
+    let last = ask_for(byte / 64 % 2 == 1, LENGTH_HIGH, none());
+    let third = ask_for(byte / 32 % 2 == 1, LENGTH_LOW, last);
+    let second = ask_for(byte / 16 % 2 == 1, A_HIGH, third);
+    ask_for(byte / 8 % 2 == 1, A_LOW, second)
 }
 
 // What WR1 asks for.
-pub fn wr1_asks(byte: u8) -> Pending
+fn wr1_asks(byte: u8) -> Pending
     ensures { λ r. ⌜ r ≡ wr1Asks byte ⌝ }
 {
-    asked(byte / 64 % 2 == 1, A_TIMING, none())
+    ask_for(byte / 64 % 2 == 1, A_TIMING, none())
 }
 
 // What WR2 asks for.
-pub fn wr2_asks(byte: u8) -> Pending
+fn wr2_asks(byte: u8) -> Pending
     ensures { λ r. ⌜ r ≡ wr2Asks byte ⌝ }
 {
-    asked(byte / 64 % 2 == 1, B_TIMING, none())
+    ask_for(byte / 64 % 2 == 1, B_TIMING, none())
 }
 
 // What WR4 asks for.
-pub fn wr4_asks(byte: u8) -> Pending
+fn wr4_asks(byte: u8) -> Pending
     ensures { λ r. ⌜ r ≡ wr4Asks byte ⌝ }
 {
-    let last = asked(byte / 8 % 2 == 1, B_HIGH, none());
-    asked(byte / 4 % 2 == 1, B_LOW, last)
+    let last = ask_for(byte / 8 % 2 == 1, B_HIGH, none());
+    ask_for(byte / 4 % 2 == 1, B_LOW, last)
 }
 
 // The read mask, after BB.
-pub fn mask_asked() -> Pending
+fn mask_asked() -> Pending
     ensures { λ r. ⌜ r ≡ maskAsked ⌝ }
 {
     Pending {
@@ -119,6 +121,51 @@ pub fn mask_asked() -> Pending
         third: 0,
         fourth: 0,
     }
+}
+
+// After a byte that selects a register: what it asks for.
+fn after_register(byte: u8, p: Pending) -> Pending
+    ensures { λ r. ⌜ r ≡ asked byte p ⌝ }
+{
+    let register = selection::register_of(byte);
+    if register == 0 {
+        return wr0_asks(byte);
+    }
+    if register == 1 {
+        return wr1_asks(byte);
+    }
+    if register == 2 {
+        return wr2_asks(byte);
+    }
+    if register == 4 {
+        return wr4_asks(byte);
+    }
+    if byte == 0xBB {
+        return mask_asked();
+    }
+    p
+}
+
+// After a parameter: it is used up, and B timing may ask for the prescaler.
+fn after_parameter(byte: u8, p: Pending) -> Pending
+    ensures { λ r. ⌜ r ≡ usedUp byte p ⌝ }
+{
+    let later = after_first(p);
+    ask_for(
+        (p.first == B_TIMING) & (byte / 32 % 2 == 1),
+        PRESCALER,
+        later,
+    )
+}
+
+// What is pending after a byte.
+pub fn after(byte: u8, p: Pending) -> Pending
+    ensures { λ r. ⌜ r ≡ pendingAfter byte p ⌝ }
+{
+    if is_pending(p) {
+        return after_parameter(byte, p);
+    }
+    after_register(byte, p)
 }
 
 // `y` may stand right behind `x`.

@@ -1,13 +1,11 @@
 // WR6, the commands.
 ghost use mathlib.Core.Path.{_≡_};
 ghost use Rattle.rules.specs.Commands.{blockEnded, enable, controlAtReset, reset, continue, load, restartReading, askStatus, readingCommand, command};
-ghost use Rattle.rules.specs.Parts.{withA, withB, withControl, withPending, withReadback, withStatus};
+ghost use Rattle.rules.specs.Parts.{withA, withB, withControl, withReadback, withStatus};
 ghost use Rattle.rules.specs.Ports.{resetTiming};
-ghost use Rattle.rules.specs.Pending.{maskAsked};
 ghost use Rattle.rules.specs.PowerOn.{statusAtReset, readbackAtReset};
 use parts::block;
 use parts::part;
-use parts::pending;
 use parts::port;
 use rules::Core;
 use rules::Readback;
@@ -152,14 +150,6 @@ fn status_asked(c: Core) -> Core
     next
 }
 
-// The read mask is pending.
-fn mask_pending(c: Core) -> Core
-    ensures { λ r. ⌜ r ≡ withPending maskAsked c ⌝ }
-{
-    let p = pending::mask_asked();
-    part::with_pending(p, c)
-}
-
 // The commands on reading and on the status.
 fn reading_command(byte: u8, c: Core) -> Core
     ensures { λ r. ⌜ r ≡ readingCommand byte c ⌝ }
@@ -172,9 +162,6 @@ fn reading_command(byte: u8, c: Core) -> Core
     }
     if byte == 0xA7 {
         return reading_restarted(c);
-    }
-    if byte == 0xBB {
-        return mask_pending(c);
     }
     c
 }

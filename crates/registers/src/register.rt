@@ -3,22 +3,21 @@ ghost use mathlib.Core.Path.{_≡_};
 ghost use Rattle.rules.specs.Bytes.{withLow, withHigh};
 ghost use Rattle.rules.specs.Parts.{withA, withB, withBlock, withLength, withControl, withPrescaler};
 ghost use Rattle.rules.specs.Ports.{timed, addressedLow, addressedHigh};
-ghost use Rattle.rules.specs.Registers.{isWR0, isWR1, isWR2, isWR3, isWR4, isWR5, isWR6, wr0, wr1, wr2, wr3, wr4, wr5, register, bTimed, masked, parameter, takeParameter, inMode, effect, written};
+ghost use Rattle.rules.specs.Registers.{wr0, wr1, wr2, wr3, wr4, wr5, register, masked, parameter, carriedOut, effect, inMode, written};
 use crate::command;
 use parts::part;
 use parts::pending;
 use parts::port;
+use parts::selection;
 use rules::Core;
 
-// A to B or B to A, and WR0's parameters.
+// A to B or B to A.
 fn write_wr0(byte: u8, c: Core) -> Core
     ensures { λ r. ⌜ r ≡ wr0 byte c ⌝ }
 {
-    let asked = pending::wr0_asks(byte);
     let forward = byte / 4 % 2 == 1;
     let mut next = c;
     next.control.forward = forward;
-    next.pending = asked;
     next
 }
 
@@ -26,22 +25,18 @@ fn write_wr0(byte: u8, c: Core) -> Core
 fn write_wr1(byte: u8, c: Core) -> Core
     ensures { λ r. ⌜ r ≡ wr1 byte c ⌝ }
 {
-    let asked = pending::wr1_asks(byte);
     let p = c.a;
     let p = port::configure(byte, p);
-    let c = part::with_a(p, c);
-    part::with_pending(asked, c)
+    part::with_a(p, c)
 }
 
 // Port B's kind and step.
 fn write_wr2(byte: u8, c: Core) -> Core
     ensures { λ r. ⌜ r ≡ wr2 byte c ⌝ }
 {
-    let asked = pending::wr2_asks(byte);
     let p = c.b;
     let p = port::configure(byte, p);
-    let c = part::with_b(p, c);
-    part::with_pending(asked, c)
+    part::with_b(p, c)
 }
 
 // Enable or Disable.
@@ -54,15 +49,13 @@ fn write_wr3(byte: u8, c: Core) -> Core
     part::disabled(c)
 }
 
-// Burst or continuous, and WR4's parameters.
+// Burst or continuous.
 fn write_wr4(byte: u8, c: Core) -> Core
     ensures { λ r. ⌜ r ≡ wr4 byte c ⌝ }
 {
-    let asked = pending::wr4_asks(byte);
     let burst = byte / 32 % 4 == 2;
     let mut next = c;
     next.control.burst = burst;
-    next.pending = asked;
     next
 }
 
@@ -76,71 +69,29 @@ fn write_wr5(byte: u8, c: Core) -> Core
     next
 }
 
-fn is_wr0(byte: u8) -> bool
-    ensures { λ r. ⌜ r ≡ isWR0 byte ⌝ }
+// The register with this number is written.
+fn write_register(number: u8, byte: u8, c: Core) -> Core
+    ensures { λ r. ⌜ r ≡ register number byte c ⌝ }
 {
-    (byte < 128) & (byte % 4 != 0)
-}
-
-fn is_wr1(byte: u8) -> bool
-    ensures { λ r. ⌜ r ≡ isWR1 byte ⌝ }
-{
-    (byte < 128) & (byte % 8 == 4)
-}
-
-fn is_wr2(byte: u8) -> bool
-    ensures { λ r. ⌜ r ≡ isWR2 byte ⌝ }
-{
-    (byte < 128) & (byte % 8 == 0)
-}
-
-fn is_wr3(byte: u8) -> bool
-    ensures { λ r. ⌜ r ≡ isWR3 byte ⌝ }
-{
-    (128 <= byte) & (byte % 4 == 0)
-}
-
-fn is_wr4(byte: u8) -> bool
-    ensures { λ r. ⌜ r ≡ isWR4 byte ⌝ }
-{
-    (128 <= byte) & (byte % 4 == 1)
-}
-
-fn is_wr5(byte: u8) -> bool
-    ensures { λ r. ⌜ r ≡ isWR5 byte ⌝ }
-{
-    (128 <= byte) & ((byte < 192) & (byte % 8 == 2))
-}
-
-fn is_wr6(byte: u8) -> bool
-    ensures { λ r. ⌜ r ≡ isWR6 byte ⌝ }
-{
-    (128 <= byte) & (byte % 4 == 3)
-}
-
-// A byte written while no parameter is pending.
-fn write_register(byte: u8, c: Core) -> Core
-    ensures { λ r. ⌜ r ≡ register byte c ⌝ }
-{
-    if is_wr0(byte) {
+    if number == 0 {
         return write_wr0(byte, c);
     }
-    if is_wr1(byte) {
+    if number == 1 {
         return write_wr1(byte, c);
     }
-    if is_wr2(byte) {
+    if number == 2 {
         return write_wr2(byte, c);
     }
-    if is_wr3(byte) {
+    if number == 3 {
         return write_wr3(byte, c);
     }
-    if is_wr4(byte) {
+    if number == 4 {
         return write_wr4(byte, c);
     }
-    if is_wr5(byte) {
+    if number == 5 {
         return write_wr5(byte, c);
     }
-    if is_wr6(byte) {
+    if number == 6 {
         return command::obey(byte, c);
     }
     c
@@ -191,16 +142,13 @@ fn a_timing_written(byte: u8, c: Core) -> Core
     part::with_a(p, c)
 }
 
-// B's cycle, and the prescaler asked for by bit 5.
+// B's cycle.
 fn b_timing_written(byte: u8, c: Core) -> Core
-    ensures { λ r. ⌜ r ≡ bTimed byte c ⌝ }
+    ensures { λ r. ⌜ r ≡ withB (timed byte (c .b)) c ⌝ }
 {
     let p = c.b;
     let p = port::time(byte, p);
-    let codes = c.pending;
-    let codes = pending::asked(byte / 32 % 2 == 1, pending::PRESCALER, codes);
-    let c = part::with_b(p, c);
-    part::with_pending(codes, c)
+    part::with_b(p, c)
 }
 
 // The low byte of the length.
@@ -277,17 +225,6 @@ fn write_parameter(code: u8, byte: u8, c: Core) -> Core
     mask_written(byte, c)
 }
 
-// The next pending parameter is used up and takes effect.
-fn take_parameter(byte: u8, c: Core) -> Core
-    ensures { λ r. ⌜ r ≡ takeParameter byte c ⌝ }
-{
-    let codes = c.pending;
-    let code = pending::next_code(codes);
-    let later = pending::after_first(codes);
-    let c = part::with_pending(later, c);
-    write_parameter(code, byte, c)
-}
-
 // The compatibility mode that the port stands for.
 fn in_mode(port: u16, c: Core) -> Core
     ensures { λ r. ⌜ r ≡ inMode port c ⌝ }
@@ -298,15 +235,27 @@ fn in_mode(port: u16, c: Core) -> Core
     next
 }
 
-// A byte takes effect, as a parameter if one is pending.
+// A byte is carried out, as a parameter if one is pending.
+fn carry_out(byte: u8, c: Core) -> Core
+    ensures { λ r. ⌜ r ≡ carriedOut byte c ⌝ }
+{
+    let codes = c.pending;
+    if pending::is_pending(codes) {
+        let code = pending::next_code(codes);
+        return write_parameter(code, byte, c);
+    }
+    let number = selection::register_of(byte);
+    write_register(number, byte, c)
+}
+
+// A byte takes effect: it is carried out, and what is pending after it is pending.
 fn take_effect(byte: u8, c: Core) -> Core
     ensures { λ r. ⌜ r ≡ effect byte c ⌝ }
 {
     let codes = c.pending;
-    if pending::is_pending(codes) {
-        return take_parameter(byte, c);
-    }
-    write_register(byte, c)
+    let codes = pending::after(byte, codes);
+    let c = carry_out(byte, c);
+    part::with_pending(codes, c)
 }
 
 // An accepted write.

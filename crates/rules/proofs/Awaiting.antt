@@ -1,7 +1,7 @@
 -- The pending parameters: a valid sequence has codes of at most 10, and all of these are tried; each of the 23 is asked for by
--- some byte.
+-- some byte, and one or two bytes lead to it.
 -- Assumes nothing.
-use Prim.Native.Nat.{ℕ, _≤_}
+use Prim.Native.Nat.{ℕ, _≤_, _<_}
 use native.Mathlib.Omega.{arith}
 use mathlib.Core.Path.{_≡_, refl, sym, _∙_, subst}
 use mathlib.Core.Bool.{Bool, true, false}
@@ -9,13 +9,16 @@ use mathlib.Core.List.{List, [], _∷_}
 use lib.ListN.{drop}
 use borrow.Author.Tests.{leb-true, eqb-true}
 use Rattle.rules.specs.Choice.{pick}
-use Rattle.rules.specs.Pending.{follows, validPending}
-use Rattle.rules.specs.Exactly.{Awaited, byWR0, byWR1, byWR2, byWR4, byTiming, byMaskCommand, tail, codes, sequences, sameCodes, among, distinct, PendingExact}
+use Rattle.rules.specs.Pending.{codes, sameCodes, nothing, pendingAfter, follows, validPending}
+use Rattle.rules.specs.Commands.{enable, readingCommand, command}
+use Rattle.rules.specs.Registers.{wr3, register, parameter, carriedOut}
+use Rattle.rules.specs.Exactly.{Awaited, byWR0, byWR1, byWR2, byWR4, byTiming, byMaskCommand, tail, LedTo, fromNothing, byByte, sequences, among, distinct, PendingExact}
 use Rattle.rules.specs.Opened.{opened}
 use Rattle.rules.specs.declared.Pending.{Pending}
-use Rattle.rules.proofs.Choice.{clash, pick-true, all-true, any-cases, any-none}
+use Rattle.rules.specs.declared.Core.{Core}
+use Rattle.rules.proofs.Choice.{clash, pick-true, pick-both, below, _⨾_, table, all-true, any-cases, any-none}
 use Rattle.rules.proofs.Trying.{allBelow, below-at}
-use Rattle.rules.proofs.Parameters.{wr0-valid, wr1-valid, wr2-valid, wr4-valid, prescaler-alone, mask-valid, follows-small, rest-valid}
+use Rattle.rules.proofs.Parameters.{wr0-valid, wr1-valid, wr2-valid, wr4-valid, prescaler-alone, mask-valid, follows-small, rest-valid, after-valid}
 
 -- every sequence of codes up to 10, each following the one before it, is one of them
 tried4 : ℕ → ℕ → ℕ → ℕ → Bool
@@ -94,11 +97,71 @@ listed-valid _ byTiming = prescaler-alone true
 listed-valid _ byMaskCommand = mask-valid
 listed-valid _ (tail p a) = rest-valid p (listed-valid p a)
 
+-- ---- what bytes lead to
+
+led : (byte : ℕ) → byte < 256 → LedTo (pendingAfter byte nothing)
+led byte h = byByte byte nothing h fromNothing
+
+other-led : Each LedTo (drop 16 sequences)
+unfolding opened
+other-led =
+    (led 0x44 (omega arith), (led 0x40 (omega arith), (byByte 0x20 _ (omega arith) (led 0x40 (omega arith)), (led 0x85 (omega arith), (led 0x89 (omega arith), (led 0x8D (omega arith), (led 0xBB (omega arith), tt)))))))
+
+longer-led : Each LedTo (drop 8 sequences)
+unfolding opened
+longer-led =
+    (led 49 (omega arith), (led 81 (omega arith), (led 97 (omega arith), (led 57 (omega arith), (led 89 (omega arith), (led 105 (omega arith), (led 113 (omega arith), (led 121 (omega arith), other-led))))))))
+
+each-led : Each LedTo sequences
+unfolding opened
+each-led =
+    (fromNothing, (led 9 (omega arith), (led 17 (omega arith), (led 33 (omega arith), (led 65 (omega arith), (led 25 (omega arith), (led 41 (omega arith), (led 73 (omega arith), longer-led))))))))
+
+nothing-valid : validPending nothing ≡ true
+unfolding opened
+nothing-valid = refl
+
+led-valid : (p : Pending) → LedTo p → validPending p ≡ true
+led-valid _ fromNothing = nothing-valid
+led-valid _ (byByte byte p h l) = after-valid byte p (led-valid p l)
+
+-- ---- a byte carried out leaves them alone
+
+abbrev Alone : Core → Core → Type 0
+Alone c d = d .pending ≡ c .pending
+
+enable-alone : (c : Core) → Alone c (enable c)
+unfolding enable
+enable-alone c = pick-both (Alone c) _ _ _ refl (pick-both (Alone c) _ _ _ refl refl)
+
+command-alone : (byte : ℕ) (c : Core) → Alone c (command byte c)
+unfolding command readingCommand
+command-alone byte c =
+    table (Alone c)
+    (refl ⨾ refl ⨾ refl ⨾ refl ⨾ refl ⨾ enable-alone c ⨾ refl ⨾ below (table (Alone c) (refl ⨾ refl ⨾ refl ⨾ below refl)))
+
+register-alone : (number byte : ℕ) (c : Core) → Alone c (register number byte c)
+unfolding register wr3
+register-alone number byte c =
+    table (Alone c)
+    (refl ⨾ refl ⨾ refl ⨾ pick-both (Alone c) _ _ _ (enable-alone c) refl ⨾ refl ⨾ refl ⨾ command-alone byte c ⨾ below refl)
+
+parameter-alone : (code byte : ℕ) (c : Core) → Alone c (parameter code byte c)
+unfolding parameter
+parameter-alone code byte c =
+    table (Alone c) (refl ⨾ refl ⨾ refl ⨾ refl ⨾ refl ⨾ refl ⨾ refl ⨾ refl ⨾ refl ⨾ below refl)
+
+carried-alone : (byte : ℕ) (c : Core) → Alone c (carriedOut byte c)
+unfolding carriedOut
+carried-alone byte c = pick-both (Alone c) _ _ _ (parameter-alone _ byte c) (register-alone _ byte c)
+
 pub pending-exact : PendingExact
 unfolding opened among distinct
 pending-exact =
     record {
       valid = λ p. record { to = λ e. among-each Awaited p sequences each-awaited (valid-listed p e); from = listed-valid p };
+      led = λ p. record { to = λ e. among-each LedTo p sequences each-led (valid-listed p e); from = led-valid p };
+      alone = carried-alone;
       listed =
           λ p.
           record {

@@ -6,8 +6,9 @@ use mathlib.Core.Path.{_≡_, refl, sym, _∙_}
 use mathlib.Core.Bool.{Bool, true, false, _&&_, _||_, not}
 use mathlib.Core.List.{List, [], _∷_}
 use borrow.Author.Tests.{not-true, not-false}
-use Rattle.rules.specs.Choice.{pick, every, any, means}
+use Rattle.rules.specs.Choice.{pick, Row, firstOf, every, any, means}
 
+infixr 5 _⨾_
 -- true is not false
 pub clash {ℓ} : {X : Type ℓ} → false ≡ true → X
 clash e = absurd (let z : _≡_ {A = ℕ} 0 1 = cc in omega arith)
@@ -37,6 +38,22 @@ pub pick-ap {ℓ κ} : {X : Type ℓ} {Y : Type κ} (f : X → Y) (t : Bool) (x 
 unfolding pick
 pick-ap f true x y = refl
 pick-ap f false x y = refl
+
+-- ---- the first row of a table
+
+-- something holds of what each row gives, and of what stands below the table
+pub data Rows {X : Type 0} (P : X → Type 0) : List (Row X) → X → Type 0 where
+  below : {x : X} → P x → Rows P [] x
+  _⨾_ : {r : Row X} {rs : List (Row X)} {x : X} → P (r .result) → Rows P rs x → Rows P (r ∷ rs) x
+  -- of a row under its test
+  under : {r : Row X} {rs : List (Row X)} {x : X} → (r .holds ≡ true → P (r .result)) → Rows P rs x → Rows P (r ∷ rs) x
+
+-- then it holds of what the table gives
+pub table : {X : Type 0} (P : X → Type 0) {rs : List (Row X)} {x : X} → Rows P rs x → P (firstOf rs x)
+unfolding firstOf
+table P (below p) = p
+table P (p ⨾ ps) = pick-both P _ _ _ p (table P ps)
+table P (under f ps) = pick-cases P _ _ _ f (λ e. table P ps)
 
 pub not-of-false : (t : Bool) → t ≡ false → not t ≡ true
 not-of-false true e = clash (sym e)

@@ -10,16 +10,17 @@ use mathlib.Core.List.{[], _∷_}
 use lib.Dec.{eqb}
 use borrow.Author.Tests.{eqb-true}
 use Rattle.rules.specs.Choice.{pick, any}
+use Rattle.rules.specs.Selection.{selects}
 use Rattle.rules.specs.Pending.{isPending}
 use Rattle.rules.specs.Commands.{enable, readingCommand, command}
-use Rattle.rules.specs.Registers.{wr3, register, parameter, inMode, effect, written}
+use Rattle.rules.specs.Registers.{wr3, register, parameter, inMode, carriedOut, effect, written}
 use Rattle.rules.specs.Readback.{Byte, readByte}
 use Rattle.rules.specs.Clock.{Clock, movesAt, movedAt, Ending, slotEnd, clockEnd, slotClock, firstClock, clockOf}
 use Rattle.rules.specs.History.{zeroing}
 use Rattle.rules.specs.Accounts.{heldBefore}
 use Rattle.rules.specs.Opened.{opened}
 use Rattle.rules.specs.declared.Core.{Core}
-use Rattle.rules.proofs.Choice.{clash, pick-cases, pick-both, pick-true, pick-false, either, any-first, any-more, any-cases, any-none}
+use Rattle.rules.proofs.Choice.{clash, pick-cases, pick-both, below, _⨾_, under, table, pick-true, pick-false, either, any-first, any-more, any-cases, any-none}
 
 -- the counter is as it was
 abbrev Same : Core → Core → Type 0
@@ -31,76 +32,63 @@ enable-same c = pick-both (Same c) _ _ _ refl (pick-both (Same c) _ _ _ refl ref
 
 reading-same : (byte : ℕ) (c : Core) → Same c (readingCommand byte c)
 unfolding readingCommand
-reading-same byte c =
-    pick-both (Same c) _ _ _ refl (pick-both (Same c) _ _ _ refl (pick-both (Same c) _ _ _ refl (pick-both (Same c) _ _ _ refl refl)))
+reading-same byte c = table (Same c) (refl ⨾ refl ⨾ refl ⨾ below refl)
 
 -- a byte that is neither Load nor Continue
 module _ (byte : ℕ) (c : Core) (load : eqb byte 0xCF ≡ false) (continue : eqb byte 0xD3 ≡ false) where
   command-same : Same c (command byte c)
   unfolding command
   command-same =
-      pick-both (Same c) _ _ _ refl
-      (pick-both (Same c) _ _ _ refl
-      (pick-both (Same c) _ _ _ refl
-      (pick-cases (Same c) _ _ _ (λ e. clash (sym load ∙ e))
-      (λ e.
-      pick-cases (Same c) _ _ _ (λ d. clash (sym continue ∙ d))
-      (λ d. pick-both (Same c) _ _ _ (enable-same c) (pick-both (Same c) _ _ _ refl (reading-same byte c)))))))
+      table (Same c)
+      (refl
+      ⨾ refl
+      ⨾ refl
+      ⨾ under (λ e. clash (sym load ∙ e))
+      (under (λ e. clash (sym continue ∙ e)) (enable-same c ⨾ refl ⨾ below (reading-same byte c))))
 
   wr3-same : Same c (wr3 byte c)
   unfolding wr3
   wr3-same = pick-both (Same c) _ _ _ (enable-same c) refl
 
-  register-same : Same c (register byte c)
+  register-same : (number : ℕ) → Same c (register number byte c)
   unfolding register
-  register-same =
-      pick-both (Same c) _ _ _ refl
-      (pick-both (Same c) _ _ _ refl
-      (pick-both (Same c) _ _ _ refl
-      (pick-both (Same c) _ _ _ wr3-same
-      (pick-both (Same c) _ _ _ refl (pick-both (Same c) _ _ _ refl (pick-both (Same c) _ _ _ command-same refl))))))
+  register-same number = table (Same c) (refl ⨾ refl ⨾ refl ⨾ wr3-same ⨾ refl ⨾ refl ⨾ command-same ⨾ below refl)
 
 parameter-same : (code byte : ℕ) (c : Core) → Same c (parameter code byte c)
 unfolding parameter
 parameter-same code byte c =
-    pick-both (Same c) _ _ _ refl
-    (pick-both (Same c) _ _ _ refl
-    (pick-both (Same c) _ _ _ refl
-    (pick-both (Same c) _ _ _ refl
-    (pick-both (Same c) _ _ _ refl
-    (pick-both (Same c) _ _ _ refl
-    (pick-both (Same c) _ _ _ refl (pick-both (Same c) _ _ _ refl (pick-both (Same c) _ _ _ refl refl))))))))
+    table (Same c) (refl ⨾ refl ⨾ refl ⨾ refl ⨾ refl ⨾ refl ⨾ refl ⨾ refl ⨾ refl ⨾ below refl)
 
 -- Load and Continue
-load-zero : (c : Core) → register 0xCF c .block .counter ≡ 0
+load-zero : (c : Core) → register (selects 0xCF) 0xCF c .block .counter ≡ 0
 unfolding opened
 load-zero c = refl
 
-continue-zero : (c : Core) → register 0xD3 c .block .counter ≡ 0
+continue-zero : (c : Core) → register (selects 0xD3) 0xD3 c .block .counter ≡ 0
 unfolding opened
 continue-zero c = refl
 
-register-zero : (byte : ℕ) (c : Core) → any (eqb byte 0xCF ∷ eqb byte 0xD3 ∷ []) ≡ true → register byte c .block .counter ≡ 0
+register-zero : (byte : ℕ) (c : Core) → any (eqb byte 0xCF ∷ eqb byte 0xD3 ∷ []) ≡ true → register (selects byte) byte c .block .counter ≡ 0
 register-zero byte c e =
-    any-cases _ _ e (λ d. ap (λ (b : ℕ). register b c .block .counter) (eqb-true _ _ d) ∙ load-zero c)
-    (λ r. any-cases _ _ r (λ d. ap (λ (b : ℕ). register b c .block .counter) (eqb-true _ _ d) ∙ continue-zero c) any-none)
+    any-cases _ _ e (λ d. ap (λ (b : ℕ). register (selects b) b c .block .counter) (eqb-true _ _ d) ∙ load-zero c)
+    (λ r. any-cases _ _ r (λ d. ap (λ (b : ℕ). register (selects b) b c .block .counter) (eqb-true _ _ d) ∙ continue-zero c) any-none)
 
 -- an accepted write
 zeroing-effect : (byte : ℕ) (c : Core) → zeroing byte c ≡ true → effect byte c .block .counter ≡ 0
-unfolding effect zeroing
+unfolding effect carriedOut zeroing
 zeroing-effect byte c =
     either (isPending (c .pending)) (λ p z. clash (sym (pick-true _ _ _ p) ∙ z))
     (λ p z. ap (λ (d : Core). d .block .counter) (pick-false _ _ _ p) ∙ register-zero byte c (sym (pick-false _ _ _ p) ∙ z))
 
 other-effect : (byte : ℕ) (c : Core) → zeroing byte c ≡ false → Same c (effect byte c)
-unfolding effect zeroing
+unfolding effect carriedOut zeroing
 other-effect byte c =
     either (isPending (c .pending))
     (λ p z. ap (λ (d : Core). d .block .counter) (pick-true _ _ _ p) ∙ parameter-same _ byte _)
     (λ p z.
     let n = sym (pick-false _ _ _ p) ∙ z in
     ap (λ (d : Core). d .block .counter) (pick-false _ _ _ p)
-    ∙ register-same byte c (not-first _ _ n) (not-second _ _ n))
+    ∙ register-same byte c (not-first _ _ n) (not-second _ _ n) _)
   where
     not-first : (s t : Bool) → any (s ∷ t ∷ []) ≡ false → s ≡ false
     not-first s t n = either s (λ e. clash (sym n ∙ any-first s (t ∷ []) e)) (λ e. e)
@@ -119,8 +107,7 @@ write-same port byte c z = other-effect byte (inMode port c) z
 -- an accepted read
 pub read-same : (c : Core) → Same c (readByte c .core)
 unfolding readByte
-read-same c =
-    pick-both (λ (b : Byte). Same c (b .core)) _ _ _ refl (pick-both (λ (b : Byte). Same c (b .core)) _ _ _ refl refl)
+read-same c = table (λ (b : Byte). Same c (b .core)) (refl ⨾ refl ⨾ below refl)
 
 -- ---- one clock
 

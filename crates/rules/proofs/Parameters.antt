@@ -1,4 +1,5 @@
--- What the rules do to the pending parameters keeps the sequence valid.
+-- What is pending after a byte is valid where what was pending is: each sequence asked for is tried, and those after the next
+-- one follow each other as before.
 -- Assumes nothing.
 use Prim.Native.Nat.{ℕ, _≤_, _<_}
 use native.Mathlib.Omega.{arith}
@@ -8,10 +9,10 @@ use mathlib.Core.List.{[], _∷_}
 use borrow.Author.Tests.{ltb-true, leb-true, eqb-true, le-leb}
 use Rattle.rules.specs.Choice.{every}
 use Rattle.rules.specs.Bytes.{bit}
-use Rattle.rules.specs.Pending.{aLow, aHigh, lengthLow, lengthHigh, aTiming, bTiming, prescaler, bLow, bHigh, nothing, rest, ask, wr0Asks, wr1Asks, wr2Asks, wr4Asks, maskAsked, follows, validPending}
+use Rattle.rules.specs.Pending.{aLow, aHigh, lengthLow, lengthHigh, aTiming, bTiming, prescaler, bLow, bHigh, codes, nothing, next, rest, ask, wr0Asks, wr1Asks, wr2Asks, wr4Asks, maskAsked, asked, usedUp, pendingAfter, follows, validPending}
 use Rattle.rules.specs.Opened.{opened}
 use Rattle.rules.specs.declared.Pending.{Pending}
-use Rattle.rules.proofs.Choice.{all-true, true-all, any-first, any-cases, any-none}
+use Rattle.rules.proofs.Choice.{pick-cases, pick-both, below, _⨾_, table, every-first, all-true, true-all, any-first, any-cases, any-none}
 
 -- a test that holds at true and at false holds at every Bool
 abbrev anyway : (Bool → Bool) → Bool
@@ -62,9 +63,6 @@ pub prescaler-alone : (t : Bool) → validPending (ask t prescaler nothing) ≡ 
 unfolding opened alone-ways
 prescaler-alone t = anyway-at (alone-ways prescaler) refl t
 
-pub prescaler-valid : (t : Bool) (p : Pending) → p ≡ nothing → validPending (ask t prescaler p) ≡ true
-prescaler-valid t p e = rw e (prescaler-alone t)
-
 pub mask-valid : validPending maskAsked ≡ true
 unfolding opened
 mask-valid = refl
@@ -91,14 +89,14 @@ follows-timing : (x y : ℕ) → follows x y ≡ true → x ≡ bTiming → y �
 follows-timing x y e z = follows-cases x y e (λ d. d) (λ i j k. omega arith) (λ i j k. omega arith)
 
 -- B timing is the last of its sequence
-pub timing-last : (p : Pending) → validPending p ≡ true → p .first ≡ bTiming → rest p ≡ nothing
+timing-last : (p : Pending) → validPending p ≡ true → next p ≡ bTiming → rest p ≡ nothing
 unfolding validPending
 timing-last p e z =
     let h = all-true _ e in
     let s : p .second ≡ 0 = follows-timing _ _ (h .1 .0) z in
     let t : p .third ≡ 0 = follows-nothing _ _ (h .1 .1 .0) s in
     let f : p .fourth ≡ 0 = follows-nothing _ _ (h .1 .1 .1 .0) t in
-    λ i. record { first = s i; second = t i; third = f i; fourth = 0 }
+    λ i. codes (s i) (t i) (f i) 0
 
 follows-end : (x : ℕ) → follows x 0 ≡ true
 unfolding follows
@@ -110,3 +108,31 @@ rest-valid p e =
     let h = all-true _ e in
     true-all _
     (le-leb (p .second) 10 (follows-small (p .first) (p .second) (h .1 .0)), (h .1 .1 .0, (h .1 .1 .1 .0, (follows-end (p .fourth), tt))))
+
+-- ---- what is pending after a byte
+
+abbrev Valid : Pending → Type 0
+Valid p = validPending p ≡ true
+
+-- the prescaler in front of nothing
+prescaler-first : (p : Pending) → p ≡ nothing → Valid (codes prescaler (p .first) (p .second) (p .third))
+unfolding opened
+prescaler-first p e = rw e refl
+
+prescaler-asked : (t : Bool) (p : Pending) → (t ≡ true → p ≡ nothing) → Valid p → Valid (ask t prescaler p)
+unfolding ask
+prescaler-asked t p alone e = pick-cases Valid _ _ _ (λ d. prescaler-first p (alone d)) (λ d. e)
+
+used-valid : (byte : ℕ) (p : Pending) → Valid p → Valid (usedUp byte p)
+unfolding usedUp
+used-valid byte p e =
+    prescaler-asked _ (rest p) (λ t. timing-last p e (eqb-true _ _ (every-first _ _ t))) (rest-valid p e)
+
+asked-valid : (byte : ℕ) (p : Pending) → Valid p → Valid (asked byte p)
+unfolding asked
+asked-valid byte p e =
+    table Valid (wr0-valid byte ⨾ wr1-valid byte ⨾ wr2-valid byte ⨾ wr4-valid byte ⨾ mask-valid ⨾ below e)
+
+pub after-valid : (byte : ℕ) (p : Pending) → Valid p → Valid (pendingAfter byte p)
+unfolding pendingAfter
+after-valid byte p e = pick-both Valid _ _ _ (used-valid byte p e) (asked-valid byte p e)

@@ -15,7 +15,7 @@ use Rattle.rules.specs.Exactly.{onward, ChosenRead, ChosenExact, LowFirs
 use Rattle.rules.specs.Opened.{opened}
 use Rattle.rules.specs.declared.Status.{Status}
 use Rattle.rules.specs.declared.Core.{Core}
-use Rattle.rules.proofs.Choice.{clash, pick-cases, pick-both, pick-true, pick-false, either, any-cases, any-none}
+use Rattle.rules.proofs.Choice.{clash, pick-cases, below, _⨾_, table, pick-true, pick-false, either, any-cases, any-none}
 use Rattle.rules.proofs.Trying.{allBelow, below-at}
 use Rattle.rules.proofs.Steady.{steady-readback, kept-from, kept-steady, kept-slot, kept-progress}
 
@@ -148,10 +148,7 @@ read-kept c k =
     let s = kept-steady c k in
     let v = kept-slot c k in
     let p = kept-progress c k in
-    pick-both (λ (b : Byte). Kept (b .core)) _ _ _
-    (kept-from _ (steady-readback s _ (record { mask = s .readback .mask; position = s .readback .position })) v p)
-    (pick-both (λ (b : Byte). Kept (b .core)) _ _ _ k
-    (kept-from _
-    (steady-readback s _
-    (record { mask = s .readback .mask; position = after-small _ }))
-    v p))
+    table (λ (b : Byte). Kept (b .core))
+    (kept-from _ (steady-readback s _ (record { mask = s .readback .mask; position = s .readback .position })) v p
+    ⨾ k
+    ⨾ below (kept-from _ (steady-readback s _ (record { mask = s .readback .mask; position = after-small _ })) v p))

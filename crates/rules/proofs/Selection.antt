@@ -1,15 +1,20 @@
--- Counted over all 256 bytes; a byte that selects no register passes all seven tests by.
+-- Counted over all 256 bytes; a byte that selects no register passes all seven tests by, and is not BB either.
 -- Assumes nothing.
 use Prim.Native.Nat.{ℕ}
 use native.Mathlib.Omega.{arith}
-use mathlib.Core.Path.{_≡_, refl, _∙_}
+use mathlib.Core.Path.{_≡_, refl, sym, _∙_, ap}
 use mathlib.Core.Bool.{Bool, true, false}
 use mathlib.Core.List.{List, _∷_}
-use Rattle.rules.specs.Choice.{pick}
-use Rattle.rules.specs.Pending.{isPending}
-use Rattle.rules.specs.Registers.{register, inMode, effect, written}
+use lib.Dec.{eqb}
+use borrow.Author.Tests.{ne-eqb}
+use Rattle.rules.specs.Choice.{pick, firstOf}
+use Rattle.rules.specs.Parts.{withPending}
+use Rattle.rules.specs.Selection.{selects}
+use Rattle.rules.specs.Pending.{isPending, asked, pendingAfter}
+use Rattle.rules.specs.Registers.{register, inMode, carriedOut, effect, written}
 use Rattle.rules.specs.Exactly.{holding, selected, selecting, SelectionExact}
 use Rattle.rules.specs.Opened.{opened}
+use Rattle.rules.specs.declared.Pending.{Pending}
 use Rattle.rules.specs.declared.Core.{Core}
 use Rattle.rules.proofs.Choice.{pick-false}
 
@@ -27,9 +32,10 @@ unfolding holding pick
 none-first true ts e = absurd (omega (arith, e))
 none-first false ts e = (refl, omega (arith, e))
 
-idle-register : (byte : ℕ) (c : Core) → selected byte ≡ 0 → register byte c ≡ c
-unfolding register
-idle-register byte c e =
+-- a byte that selects no register has number 7
+idle : (byte : ℕ) → selected byte ≡ 0 → selects byte ≡ 7
+unfolding selects firstOf
+idle byte e =
     let h0 = none-first _ _ e in
     let h1 = none-first _ _ (h0 .1) in
     let h2 = none-first _ _ (h1 .1) in
@@ -45,9 +51,31 @@ idle-register byte c e =
     ∙ pick-false _ _ _ (h5 .0)
     ∙ pick-false _ _ _ (h6 .0)
 
+idle-register : (byte : ℕ) (c : Core) → selects byte ≡ 7 → register (selects byte) byte c ≡ c
+unfolding register firstOf pick
+idle-register byte c e = simp e
+
+-- BB selects WR6
+mask-selects : selects 0xBB ≡ 6
+unfolding opened
+mask-selects = refl
+
+not-mask : (byte : ℕ) → selects byte ≡ 7 → eqb byte 0xBB ≡ false
+not-mask byte e = ne-eqb _ _ (λ (d : byte ≡ 0xBB). let m = sym e ∙ ap selects d ∙ mask-selects in omega (arith, m))
+
+idle-asked : (byte : ℕ) (p : Pending) → selects byte ≡ 7 → asked byte p ≡ p
+unfolding asked firstOf pick
+idle-asked byte p e = simp (e, not-mask byte e)
+
+idle-effect : (byte : ℕ) (c : Core) → selects byte ≡ 7 → isPending (c .pending) ≡ false → effect byte c ≡ c
+unfolding effect carriedOut pendingAfter
+idle-effect byte c h p =
+    let q : pendingAfter byte (c .pending) ≡ c .pending = pick-false _ _ _ p ∙ idle-asked byte _ h in
+    let d : carriedOut byte c ≡ c = pick-false _ _ _ p ∙ idle-register byte c h in
+    λ i. withPending (q i) (d i)
+
 idle-written : (port byte : ℕ) (c : Core) → selected byte ≡ 0 → isPending (c .pending) ≡ false → written port byte c ≡ inMode port c
-unfolding effect
-idle-written port byte c e p = pick-false _ _ _ p ∙ idle-register byte (inMode port c) e
+idle-written port byte c e p = idle-effect byte (inMode port c) (idle byte e) p
 
 pub selection-exact : SelectionExact
 selection-exact = record { one = one-register; none = no-register; idle = idle-written }

@@ -5,20 +5,20 @@ use Prim.Native.Nat.{ℕ, _<_}
 use native.Mathlib.Omega.{arith}
 use mathlib.Core.Path.{_≡_, refl, sym, _∙_}
 use mathlib.Core.Bool.{Bool, true, false}
-use borrow.Author.Tests.{eqb-true}
-use Rattle.rules.specs.Bytes.{bit}
+use Rattle.rules.specs.Parts.{withPending}
 use Rattle.rules.specs.Slots.{noSlot, busHeld, unmoved}
-use Rattle.rules.specs.Pending.{bTiming, nothing}
+use Rattle.rules.specs.Pending.{validPending}
 use Rattle.rules.specs.Facts.{Kept, ValidSlot, resting, running}
 use Rattle.rules.specs.Commands.{enable, reset, continue, load, restartReading, askStatus, readingCommand, command}
-use Rattle.rules.specs.Registers.{wr3, register, parameter, effect, written}
+use Rattle.rules.specs.Registers.{wr3, register, parameter, carriedOut, effect, written}
+use Rattle.rules.specs.declared.Pending.{Pending}
 use Rattle.rules.specs.declared.Slot.{Slot}
 use Rattle.rules.specs.declared.Core.{Core}
-use Rattle.rules.proofs.Choice.{clash, pick-cases, pick-both}
+use Rattle.rules.proofs.Choice.{clash, pick-cases, pick-both, below, _⨾_, table}
 use Rattle.rules.proofs.Slots.{free-settled}
 use Rattle.rules.proofs.Ports.{good-configured, good-timed, good-low, good-high, good-reset, good-loaded, low-fits, high-fits}
-use Rattle.rules.proofs.Parameters.{wr0-valid, wr1-valid, wr2-valid, wr4-valid, prescaler-valid, mask-valid, timing-last, rest-valid}
-use Rattle.rules.proofs.Steady.{SteadyCore, steady-a, steady-b, steady-block, steady-control, steady-readback, steady-pending, kept-from, kept-steady, kept-slot}
+use Rattle.rules.proofs.Parameters.{after-valid}
+use Rattle.rules.proofs.Steady.{SteadyCore, steady-a, steady-b, steady-block, steady-control, steady-readback, steady-pending, kept-from, kept-steady, kept-slot, kept-progress}
 
 -- a valid slot in which no byte is yet to move
 record Settled (t : Bool) (s : Slot) : Type 0 where
@@ -68,20 +68,20 @@ module _ (byte : ℕ) (c : Core) (f : Settled (c .enabled) (c .slot)) (s : Stead
   reading-kept : Kept (readingCommand byte c)
   unfolding readingCommand
   reading-kept =
-      pick-both Kept _ _ _ (kept _ f s)
-      (pick-both Kept _ _ _ (kept _ f asked-steady)
-      (pick-both Kept _ _ _ (kept _ f reread-steady)
-      (pick-both Kept _ _ _ (kept _ f (steady-pending s _ mask-valid)) (kept c f s))))
+      table Kept (kept _ f s ⨾ kept _ f asked-steady ⨾ kept _ f reread-steady ⨾ below (kept c f s))
 
   command-kept : Kept (command byte c)
   unfolding command
   command-kept =
-      pick-both Kept _ _ _ (kept _ off reset-steady)
-      (pick-both Kept _ _ _ (kept _ f (steady-a s (good-reset _ (s .a))))
-      (pick-both Kept _ _ _ (kept _ f (steady-b s (good-reset _ (s .b))))
-      (pick-both Kept _ _ _ (kept _ f load-steady)
-      (pick-both Kept _ _ _ (kept _ f continue-steady)
-      (pick-both Kept _ _ _ enable-kept (pick-both Kept _ _ _ (kept _ off s) reading-kept))))))
+      table Kept
+      (kept _ off reset-steady
+      ⨾ kept _ f (steady-a s (good-reset _ (s .a)))
+      ⨾ kept _ f (steady-b s (good-reset _ (s .b)))
+      ⨾ kept _ f load-steady
+      ⨾ kept _ f continue-steady
+      ⨾ enable-kept
+      ⨾ kept _ off s
+      ⨾ below reading-kept)
 
   -- ---- registers
 
@@ -89,44 +89,47 @@ module _ (byte : ℕ) (c : Core) (f : Settled (c .enabled) (c .slot)) (s : Stead
   unfolding wr3
   wr3-kept = pick-both Kept _ _ _ enable-kept (kept _ off s)
 
-  register-kept : Kept (register byte c)
+  register-kept : (number : ℕ) → Kept (register number byte c)
   unfolding register
-  register-kept =
-      pick-both Kept _ _ _ (kept _ f (steady-pending (steady-control s _ (s .prescaler)) _ (wr0-valid byte)))
-      (pick-both Kept _ _ _ (kept _ f (steady-pending (steady-a s (good-configured _ byte (s .a))) _ (wr1-valid byte)))
-      (pick-both Kept _ _ _ (kept _ f (steady-pending (steady-b s (good-configured _ byte (s .b))) _ (wr2-valid byte)))
-      (pick-both Kept _ _ _ wr3-kept
-      (pick-both Kept _ _ _ (kept _ f (steady-pending (steady-control s _ (s .prescaler)) _ (wr4-valid byte)))
-      (pick-both Kept _ _ _ (kept _ f (steady-control s _ (s .prescaler)))
-      (pick-both Kept _ _ _ command-kept (kept c f s)))))))
+  register-kept number =
+      table Kept
+      (kept _ f (steady-control s _ (s .prescaler))
+      ⨾ kept _ f (steady-a s (good-configured _ byte (s .a)))
+      ⨾ kept _ f (steady-b s (good-configured _ byte (s .b)))
+      ⨾ wr3-kept
+      ⨾ kept _ f (steady-control s _ (s .prescaler))
+      ⨾ kept _ f (steady-control s _ (s .prescaler))
+      ⨾ command-kept
+      ⨾ below (kept c f s))
 
   -- ---- parameters
 
-  -- where the parameter is B timing, nothing else is pending
-  parameter-kept : (code : ℕ) → byte < 256 → (code ≡ bTiming → c .pending ≡ nothing) → Kept (parameter code byte c)
+  parameter-kept : (code : ℕ) → byte < 256 → Kept (parameter code byte c)
   unfolding parameter
-  parameter-kept code h alone =
-      pick-both Kept _ _ _ (kept _ f (steady-a s (good-low _ byte h (s .a))))
-      (pick-both Kept _ _ _ (kept _ f (steady-a s (good-high _ byte h (s .a))))
-      (pick-both Kept _ _ _ (kept _ f (steady-block s _ (s .counter) (low-fits byte _ h (s .length))))
-      (pick-both Kept _ _ _ (kept _ f (steady-block s _ (s .counter) (high-fits byte _ h (s .length))))
-      (pick-both Kept _ _ _ (kept _ f (steady-a s (good-timed _ byte (s .a))))
-      (pick-cases Kept _ _ _
-      (λ e. kept _ f (steady-pending (steady-b s (good-timed _ byte (s .b))) _ (prescaler-valid (bit 5 byte) _ (alone (eqb-true _ _ e)))))
-      (λ e.
-      pick-both Kept _ _ _ (kept _ f (steady-control s _ h))
-      (pick-both Kept _ _ _ (kept _ f (steady-b s (good-low _ byte h (s .b))))
-      (pick-both Kept _ _ _ (kept _ f (steady-b s (good-high _ byte h (s .b))))
-      (kept _ f (steady-readback s _ (record { mask = omega arith; position = omega arith })))))))))))
+  parameter-kept code h =
+      table Kept
+      (kept _ f (steady-a s (good-low _ byte h (s .a)))
+      ⨾ kept _ f (steady-a s (good-high _ byte h (s .a)))
+      ⨾ kept _ f (steady-block s _ (s .counter) (low-fits byte _ h (s .length)))
+      ⨾ kept _ f (steady-block s _ (s .counter) (high-fits byte _ h (s .length)))
+      ⨾ kept _ f (steady-a s (good-timed _ byte (s .a)))
+      ⨾ kept _ f (steady-b s (good-timed _ byte (s .b)))
+      ⨾ kept _ f (steady-control s _ h)
+      ⨾ kept _ f (steady-b s (good-low _ byte h (s .b)))
+      ⨾ kept _ f (steady-b s (good-high _ byte h (s .b)))
+      ⨾ below (kept _ f (steady-readback s _ (record { mask = omega arith; position = omega arith }))))
 
 -- ---- an accepted write
 
+-- other parameters may be pending
+pending-kept : (c : Core) (p : Pending) → validPending p ≡ true → Kept c → Kept (withPending p c)
+pending-kept c p v k = kept-from _ (steady-pending (kept-steady c k) p v) (kept-slot c k) (kept-progress c k)
+
 effect-kept : (byte : ℕ) (c : Core) → byte < 256 → Settled (c .enabled) (c .slot) → SteadyCore c → Kept (effect byte c)
-unfolding effect
+unfolding effect carriedOut
 effect-kept byte c h f s =
-    pick-both Kept _ _ _
-    (parameter-kept byte _ f (steady-pending s _ (rest-valid _ (s .pending))) _ h (timing-last _ (s .pending)))
-    (register-kept byte c f s)
+    pending-kept _ _ (after-valid byte _ (s .pending))
+    (pick-both Kept _ _ _ (parameter-kept byte c f s _ h) (register-kept byte c f s _))
 
 -- an accepted write keeps a valid core valid
 pub write-kept : (port byte : ℕ) (c : Core) → byte < 256 → busHeld c ≡ false → Kept c → Kept (written port byte c)

@@ -4,10 +4,24 @@ use Prim.Native.Nat.{ℕ}
 use mathlib.Core.Bool.{Bool, true, false}
 use mathlib.Core.List.{List, [], _∷_}
 
+infix 68 _⇒_
 -- x where the test holds, else y
 unfoldable pub pick {ℓ} : {X : Type ℓ} → Bool → X → X → X
 pick true x y = x
 pick false x y = y
+
+-- a row of a table: where the test holds, this
+pub record Row (X : Type 0) : Type 0 where
+  pub holds : Bool
+  pub result : X
+
+abbrev pub _⇒_ : {X : Type 0} → Bool → X → Row X
+t ⇒ x = record { holds = t; result = x }
+
+-- the first row whose test holds; where none does, what stands below the table
+unfoldable pub firstOf : {X : Type 0} → List (Row X) → X → X
+firstOf [] x = x
+firstOf (r ∷ rs) x = pick (r .holds) (r .result) (firstOf rs x)
 
 -- every test of the list holds
 unfoldable pub every : List Bool → Bool

@@ -2,13 +2,13 @@
 -- Assumes nothing.
 use Prim.Native.Nat.{ℕ}
 use mathlib.Core.Bool.{true, false}
+use mathlib.Core.List.{[], _∷_}
 use lib.Dec.{eqb}
-use Rattle.rules.specs.Choice.{pick}
-use Rattle.rules.specs.Parts.{withCounter, withE, withWaiting, withPosition, withA, withB, withBlock, withStatus, withReadback, withPending, withEnabled, withSlot}
+use Rattle.rules.specs.Choice.{pick, _⇒_, firstOf}
+use Rattle.rules.specs.Parts.{withCounter, withE, withWaiting, withPosition, withA, withB, withBlock, withStatus, withReadback, withEnabled, withSlot}
 use Rattle.rules.specs.Ports.{loaded, resetTiming}
 use Rattle.rules.specs.Blocks.{finished}
 use Rattle.rules.specs.Slots.{noSlot}
-use Rattle.rules.specs.Pending.{maskAsked}
 use Rattle.rules.specs.PowerOn.{statusAtReset, readbackAtReset}
 use Rattle.rules.specs.declared.Control.{Control}
 use Rattle.rules.specs.declared.Core.{Core}
@@ -62,20 +62,24 @@ restartReading c = withReadback (withPosition 0 (c .readback)) c
 abbrev pub askStatus : Core → Core
 askStatus c = withReadback (withWaiting true (c .readback)) c
 
--- the commands on the status and on reading: 8B is E 1 and T 0, and after BB the read mask is pending
+-- the commands on the status and on reading: 8B is E 1 and T 0
 unfoldable pub readingCommand : ℕ → Core → Core
 readingCommand byte c =
-    pick (eqb byte 0x8B) (withStatus statusAtReset c)
-    (pick (eqb byte 0xBF) (askStatus c)
-    (pick (eqb byte 0xA7) (restartReading c) (pick (eqb byte 0xBB) (withPending maskAsked c) c)))
+    firstOf
+    (eqb byte 0x8B ⇒ withStatus statusAtReset c ∷ eqb byte 0xBF ⇒ askStatus c ∷ eqb byte 0xA7 ⇒ restartReading c ∷ [])
+    c
 
 -- all commands: C7 and CB put the cycle of A, or of B, to 4 and leave the prescaler (ours); one that is not listed, and B3,
--- changes nothing
+-- changes nothing; BB asks for the read mask and does nothing else
 unfoldable pub command : ℕ → Core → Core
 command byte c =
-    pick (eqb byte 0xC3) (reset c)
-    (pick (eqb byte 0xC7) (withA (resetTiming (c .a)) c)
-    (pick (eqb byte 0xCB) (withB (resetTiming (c .b)) c)
-    (pick (eqb byte 0xCF) (load c)
-    (pick (eqb byte 0xD3) (continue c)
-    (pick (eqb byte 0x87) (enable c) (pick (eqb byte 0x83) (disable c) (readingCommand byte c)))))))
+    firstOf
+    (eqb byte 0xC3 ⇒ reset c
+    ∷ eqb byte 0xC7 ⇒ withA (resetTiming (c .a)) c
+    ∷ eqb byte 0xCB ⇒ withB (resetTiming (c .b)) c
+    ∷ eqb byte 0xCF ⇒ load c
+    ∷ eqb byte 0xD3 ⇒ continue c
+    ∷ eqb byte 0x87 ⇒ enable c
+    ∷ eqb byte 0x83 ⇒ disable c
+    ∷ [])
+    (readingCommand byte c)

@@ -10,9 +10,10 @@ use Rattle.rules.specs.Choice.{pick, every, any}
 use Rattle.rules.specs.Bytes.{bit}
 use Rattle.rules.specs.Blocks.{blockCount, finished}
 use Rattle.rules.specs.Slots.{busHeld}
-use Rattle.rules.specs.Pending.{aLow, aHigh, lengthLow, lengthHigh, aTiming, bTiming, prescaler, bLow, bHigh, readMask, isPending, nothing, rest, ask, wr0Asks, wr1Asks, wr2Asks, wr4Asks, maskAsked, validPending}
+use Rattle.rules.specs.Selection.{isWR0, isWR1, isWR2, isWR4, selections}
+use Rattle.rules.specs.Pending.{aLow, aHigh, lengthLow, lengthHigh, aTiming, bTiming, prescaler, bLow, bHigh, readMask, codes, sameCodes, nothing, isPending, rest, ask, wr0Asks, wr1Asks, wr2Asks, wr4Asks, maskAsked, pendingAfter, validPending}
 use Rattle.rules.specs.Validity.{valid, total, most64}
-use Rattle.rules.specs.Registers.{isWR0, isWR1, isWR2, isWR3, isWR4, isWR5, isWR6, inMode, written}
+use Rattle.rules.specs.Registers.{carriedOut, inMode, written}
 use Rattle.rules.specs.Readback.{registerByte, after, chosen}
 use Rattle.rules.specs.Buffers.{flat, Buffers}
 use Rattle.rules.specs.World.{System}
@@ -67,10 +68,12 @@ pub data Awaited : Pending → Type 0 where
   byMaskCommand : Awaited maskAsked
   tail : (p : Pending) → Awaited p → Awaited (rest p)
 
--- the codes of a sequence, and all sequences
-abbrev pub codes : ℕ → ℕ → ℕ → ℕ → Pending
-codes x y z w = record { first = x; second = y; third = z; fourth = w }
+-- what bytes lead to, one after the other, from nothing on
+pub data LedTo : Pending → Type 0 where
+  fromNothing : LedTo nothing
+  byByte : (byte : ℕ) (p : Pending) → byte < 256 → LedTo p → LedTo (pendingAfter byte p)
 
+-- all sequences
 abbrev pub sequences : List Pending
 sequences =
     nothing
@@ -98,10 +101,6 @@ sequences =
     ∷ codes readMask 0 0 0
     ∷ []
 
-abbrev pub sameCodes : Pending → Pending → Bool
-sameCodes p q =
-    every (eqb (p .first) (q .first) ∷ eqb (p .second) (q .second) ∷ eqb (p .third) (q .third) ∷ eqb (p .fourth) (q .fourth) ∷ [])
-
 unfoldable pub among : Pending → List Pending → Bool
 among p [] = false
 among p (q ∷ qs) = any (sameCodes p q ∷ among p qs ∷ [])
@@ -113,6 +112,10 @@ distinct (p ∷ ps) = every (not (among p ps) ∷ distinct ps ∷ [])
 
 pub record PendingExact : Type 0 where
   pub valid : (p : Pending) → Exactly (validPending p ≡ true) (Awaited p)
+  -- bytes lead to each of them and to no other
+  pub led : (p : Pending) → Exactly (validPending p ≡ true) (LedTo p)
+  -- what a byte does to the rest of the core leaves them alone
+  pub alone : (byte : ℕ) (c : Core) → carriedOut byte c .pending ≡ c .pending
   -- they are these 23 and no other
   pub listed : (p : Pending) → Exactly (validPending p ≡ true) (among p sequences ≡ true)
   pub count : length sequences ≡ 23
@@ -161,8 +164,7 @@ holding (t ∷ ts) = pick t 1 0 + holding ts
 
 -- how many registers a byte selects
 abbrev pub selected : ℕ → ℕ
-selected byte =
-    holding (isWR0 byte ∷ isWR1 byte ∷ isWR2 byte ∷ isWR3 byte ∷ isWR4 byte ∷ isWR5 byte ∷ isWR6 byte ∷ [])
+selected byte = holding (selections byte)
 
 -- how many bytes below n select k registers
 unfoldable pub selecting : ℕ → ℕ → ℕ

@@ -5,6 +5,7 @@ pub mod Parts
 pub mod Ports
 pub mod Blocks
 pub mod Slots
+pub mod Selection
 pub mod Pending
 pub mod PowerOn
 pub mod Validity

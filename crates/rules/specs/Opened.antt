@@ -1,13 +1,14 @@
 -- All definitions that branch, opened at once: a proof that computes says `unfolding opened`.
 -- Assumes nothing.
-use Rattle.rules.specs.Choice.{pick, every, any, means, firstHit}
+use Rattle.rules.specs.Choice.{pick, firstOf, every, any, means, firstHit}
 use Rattle.rules.specs.Ports.{cycleOf, stepped}
 use Rattle.rules.specs.Blocks.{blockCount, finished}
 use Rattle.rules.specs.Slots.{waiting, busHeld, unmoved}
-use Rattle.rules.specs.Pending.{ask, follows, validPending}
+use Rattle.rules.specs.Selection.{selects}
+use Rattle.rules.specs.Pending.{ask, asked, usedUp, pendingAfter, follows, validPending}
 use Rattle.rules.specs.Validity.{validPort, validReadback, restingSlot, validLength, runningSlot, validSlot, validProgress, validCore, valid}
 use Rattle.rules.specs.Commands.{enable, readingCommand, command}
-use Rattle.rules.specs.Registers.{wr3, register, parameter, effect}
+use Rattle.rules.specs.Registers.{wr3, register, parameter, carriedOut, effect}
 use Rattle.rules.specs.Readback.{statusByte, registerByte, after, seek, readByte}
 use Rattle.rules.specs.Clock.{slotLength, movedAt, kindAt, slotEnd, clockEnd, slotClock, firstClock, clockOf}
 use Rattle.rules.specs.Buffers.{placed, source, destination, byteAt, put}
@@ -18,5 +19,5 @@ use Rattle.rules.specs.Entries.{poked, run}
 use Rattle.rules.specs.History.{zeroing, writePassed, notedUnless, clocksPassed, history}
 
 unfoldable pub opened : Unit {0}
-unfolding pick every any means firstHit cycleOf stepped blockCount finished waiting busHeld unmoved ask follows validPending validPort validReadback restingSlot validLength runningSlot validSlot validProgress validCore valid enable readingCommand command wr3 register parameter effect statusByte registerByte after seek readByte slotLength movedAt kindAt slotEnd clockEnd slotClock firstClock clockOf source destination byteAt put buffersAfter clocked accessRefusal lentRefusal grantRefusal unlessRefused writeReply readReply grant poked run zeroing writePassed notedUnless clocksPassed history placed
+unfolding pick firstOf every any means firstHit cycleOf stepped blockCount finished waiting busHeld unmoved selects ask asked usedUp pendingAfter follows validPending validPort validReadback restingSlot validLength runningSlot validSlot validProgress validCore valid enable readingCommand command wr3 register parameter carriedOut effect statusByte registerByte after seek readByte slotLength movedAt kindAt slotEnd clockEnd slotClock firstClock clockOf source destination byteAt put buffersAfter clocked accessRefusal lentRefusal grantRefusal unlessRefused writeReply readReply grant poked run zeroing writePassed notedUnless clocksPassed history placed
 opened = tt

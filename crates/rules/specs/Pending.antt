@@ -1,12 +1,13 @@
 -- The pending parameters (document 01: awaited): a sequence of codes, the next one first, 0 behind the last.
--- All that is said of the sequence is said here.
+-- All that steers the sequence stands here: what is next, and what is pending after a byte.
 -- Assumes nothing.
 use Prim.Native.Nat.{ℕ}
 use mathlib.Core.Bool.{Bool, not}
 use mathlib.Core.List.{[], _∷_}
 use lib.Dec.{leb, ltb, eqb}
-use Rattle.rules.specs.Choice.{pick, every, any}
+use Rattle.rules.specs.Choice.{pick, _⇒_, firstOf, every, any}
 use Rattle.rules.specs.Bytes.{bit}
+use Rattle.rules.specs.Selection.{selects}
 use Rattle.rules.specs.declared.Pending.{Pending}
 
 -- the codes, in the order of document 01's table
@@ -40,9 +41,18 @@ bHigh = 9
 abbrev pub readMask : ℕ
 readMask = 10
 
+-- the sequence of these codes
+abbrev pub codes : ℕ → ℕ → ℕ → ℕ → Pending
+codes x y z w = record { first = x; second = y; third = z; fourth = w }
+
+-- two sequences of the same codes
+abbrev pub sameCodes : Pending → Pending → Bool
+sameCodes p q =
+    every (eqb (p .first) (q .first) ∷ eqb (p .second) (q .second) ∷ eqb (p .third) (q .third) ∷ eqb (p .fourth) (q .fourth) ∷ [])
+
 -- nothing is pending
 abbrev pub nothing : Pending
-nothing = record { first = 0; second = 0; third = 0; fourth = 0 }
+nothing = codes 0 0 0 0
 
 -- the code of the next one, 0 for none
 abbrev pub next : Pending → ℕ
@@ -53,11 +63,11 @@ isPending p = not (eqb (next p) 0)
 
 -- those after the next one
 abbrev pub rest : Pending → Pending
-rest p = record { first = p .second; second = p .third; third = p .fourth; fourth = 0 }
+rest p = codes (p .second) (p .third) (p .fourth) 0
 
 -- with one more in front where the test holds
 unfoldable pub ask : Bool → ℕ → Pending → Pending
-ask t code p = pick t (record { first = code; second = p .first; third = p .second; fourth = p .third }) p
+ask t code p = pick t (codes code (p .first) (p .second) (p .third)) p
 
 -- the parameters that each register's byte asks for, in their order
 abbrev pub wr0Asks : ℕ → Pending
@@ -74,7 +84,28 @@ wr4Asks byte = ask (bit 2 byte) bLow (ask (bit 3 byte) bHigh nothing)
 
 -- the read mask, after BB
 abbrev pub maskAsked : Pending
-maskAsked = record { first = readMask; second = 0; third = 0; fourth = 0 }
+maskAsked = codes readMask 0 0 0
+
+-- a byte that selects a register: those that it asks for; WR3, WR5, the other commands and the bytes that select none leave
+-- what is pending as it is
+unfoldable pub asked : ℕ → Pending → Pending
+asked byte p =
+    firstOf
+    (eqb (selects byte) 0 ⇒ wr0Asks byte
+    ∷ eqb (selects byte) 1 ⇒ wr1Asks byte
+    ∷ eqb (selects byte) 2 ⇒ wr2Asks byte
+    ∷ eqb (selects byte) 4 ⇒ wr4Asks byte
+    ∷ eqb byte 0xBB ⇒ maskAsked
+    ∷ [])
+    p
+
+-- a parameter: the next one is used up, and B timing with bit 5 set asks for the prescaler
+unfoldable pub usedUp : ℕ → Pending → Pending
+usedUp byte p = ask (every (eqb (next p) bTiming ∷ bit 5 byte ∷ [])) prescaler (rest p)
+
+-- what is pending after a byte
+unfoldable pub pendingAfter : ℕ → Pending → Pending
+pendingAfter byte p = pick (isPending p) (usedUp byte p) (asked byte p)
 
 -- y may stand right behind x: nothing more, or a later parameter of the same register, WR0 or WR4
 unfoldable pub follows : ℕ → ℕ → Bool

@@ -2,8 +2,9 @@
 -- Assumes nothing.
 use Prim.Native.Nat.{ℕ, zero, suc, _+_}
 use mathlib.Core.Bool.{false}
+use mathlib.Core.List.{[], _∷_}
 use lib.Dec.{ltb, eqb}
-use Rattle.rules.specs.Choice.{pick}
+use Rattle.rules.specs.Choice.{pick, _⇒_, firstOf}
 use Rattle.rules.specs.Bytes.{bit, lowByte, highByte}
 use Rattle.rules.specs.Parts.{withPosition, withWaiting, withReadback}
 use Rattle.rules.specs.declared.Status.{Status}
@@ -16,13 +17,15 @@ statusByte s = 0x1A + pick (s .e) 32 0 + pick (s .t) 1 0
 -- register k: low comes before high, and the counter is read modulo 65,536
 unfoldable pub registerByte : ℕ → Core → ℕ
 registerByte k c =
-    pick (eqb k 0) (statusByte (c .status))
-    (pick (eqb k 1) (lowByte (c .block .counter))
-    (pick (eqb k 2) (highByte (c .block .counter))
-    (pick (eqb k 3) (lowByte (c .a .pointer))
-    (pick (eqb k 4) (highByte (c .a .pointer))
-    (pick (eqb k 5) (lowByte (c .b .pointer))
-    (highByte (c .b .pointer)))))))
+    firstOf
+    (eqb k 0 ⇒ statusByte (c .status)
+    ∷ eqb k 1 ⇒ lowByte (c .block .counter)
+    ∷ eqb k 2 ⇒ highByte (c .block .counter)
+    ∷ eqb k 3 ⇒ lowByte (c .a .pointer)
+    ∷ eqb k 4 ⇒ highByte (c .a .pointer)
+    ∷ eqb k 5 ⇒ lowByte (c .b .pointer)
+    ∷ [])
+    (highByte (c .b .pointer))
 
 -- the register after k, going round
 unfoldable pub after : ℕ → ℕ
@@ -52,6 +55,8 @@ readRegister k c = gives (registerByte k c) (withReadback (withPosition (after k
 -- a waiting status read comes first and leaves the position; an empty mask gives the status and moves nothing (ours)
 unfoldable pub readByte : Core → Byte
 readByte c =
-    pick (c .readback .waiting) (gives (statusByte (c .status)) (withReadback (withWaiting false (c .readback)) c))
-    (pick (eqb (c .readback .mask) 0) (gives (statusByte (c .status)) c)
-    (readRegister (chosen (c .readback .mask) (c .readback .position)) c))
+    firstOf
+    (c .readback .waiting ⇒ gives (statusByte (c .status)) (withReadback (withWaiting false (c .readback)) c)
+    ∷ eqb (c .readback .mask) 0 ⇒ gives (statusByte (c .status)) c
+    ∷ [])
+    (readRegister (chosen (c .readback .mask) (c .readback .position)) c)

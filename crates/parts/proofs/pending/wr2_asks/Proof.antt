@@ -1,3 +1,5 @@
+-- The calls are the definition, the last parameter first.
+-- Assumes nothing.
 use borrow.Author.Needs.{needs}
 use Rattle.parts.proofs.pending.wr2_asks.Statement.{statement}
 use Rattle.parts.proofs.pending.wr2_asks.Tie as tie
@@ -5,11 +7,11 @@ use Rattle.parts.proofs.pending.wr2_asks.Tie as tie
 none-requires : tie.Need-none-requires
 none-requires c κs = search needs
 
-asked-requires : tie.Need-asked-requires
-asked-requires c κs = search needs
+ask-for-requires : tie.Need-ask-for-requires
+ask-for-requires c κs = search needs
 
 returns : tie.Need-returns
-returns c = simp (c .before .none .ensures, c .asked .ensures)
+returns c = simp (c .before .none .ensures, c .ask-for .ensures)
 
 pub wr2-asks-spec : {M : Type 1} → statement M
-wr2-asks-spec = tie.close (tie.spec none-requires asked-requires returns)
+wr2-asks-spec = tie.close (tie.spec none-requires ask-for-requires returns)

@@ -1,3 +1,5 @@
+-- The call gives the new part, and the core takes it.
+-- Assumes nothing.
 use borrow.Author.Needs.{needs}
 use Rattle.registers.proofs.command.b_timing_reset.Statement.{statement}
 use Rattle.registers.proofs.command.b_timing_reset.Tie as tie

@@ -1,3 +1,5 @@
+-- Each of the two tests chooses its branch.
+-- Assumes nothing.
 use Rattle.rules.specs.Choice.{pick}
 use Rattle.rules.specs.Commands.{enable}
 use borrow.Author.Needs.{needs}

@@ -1,3 +1,5 @@
+-- The calls one after the other are the definition.
+-- Assumes nothing.
 use borrow.Author.Needs.{needs}
 use Rattle.registers.proofs.command.loaded.Statement.{statement}
 use Rattle.registers.proofs.command.loaded.Tie as tie

@@ -1,3 +1,5 @@
+-- The calls one after the other put together the core after a reset.
+-- Assumes nothing.
 use borrow.Author.Needs.{needs}
 use Rattle.registers.proofs.command.reset_all.Statement.{statement}
 use Rattle.registers.proofs.command.reset_all.Tie as tie

@@ -1,10 +1,11 @@
+-- The invariant: what is left of the search gives the register that the whole search gives. The measure is the number of
+-- places left.
+-- Assumes nothing.
 use Rattle.rules.proofs.Reading.{seek-end, seek-here, seek-on}
 use Rattle.rules.specs.Readback.{seek, chosen}
 use native.Mathlib.Omega.{arith}
 use borrow.Author.Needs.{needs}
 use mathlib.Core.Path.{_≡_, refl, sym, _∙_}
--- `registers::readback::first_in_mask` meets its contract. The invariant: what is left of the search gives the register that the
--- whole search gives. The measure is the number of places left. Assumes nothing.
 use Rattle.registers.proofs.readback.first_in_mask.Statement.{statement}
 use Rattle.registers.proofs.readback.first_in_mask.Tie as tie
 

@@ -1,3 +1,5 @@
+-- Above bit 7 there is none; below it the shift is the division by the power of 2.
+-- Assumes nothing.
 use Rattle.rules.proofs.Bytes.{bit-above}
 use mathlib.Core.Path.{sym}
 use borrow.Author.Needs.{needs}

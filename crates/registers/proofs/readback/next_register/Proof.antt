@@ -1,3 +1,5 @@
+-- The test chooses its branch.
+-- Assumes nothing.
 use Rattle.rules.specs.Choice.{pick}
 use Rattle.rules.specs.Readback.{after}
 use borrow.Author.Tests.{lt-ltb, le-ltb}

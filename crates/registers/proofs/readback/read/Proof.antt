@@ -1,4 +1,6 @@
-use Rattle.rules.specs.Choice.{pick}
+-- Each of the two tests chooses its row; then the calls find the register, its byte and the next position.
+-- Assumes nothing.
+use Rattle.rules.specs.Choice.{pick, firstOf}
 use Rattle.rules.specs.Readback.{readByte}
 use borrow.Author.Tests.{eq-eqb, ne-eqb}
 use borrow.Author.Needs.{needs}
@@ -9,11 +11,11 @@ status-byte-requires : tie.Need-status-byte-requires
 status-byte-requires c κs = search needs
 
 returns : tie.Need-returns
-unfolding readByte pick
+unfolding readByte firstOf pick
 returns c = simp (c .before .if1 .taken, c .before .before .status-byte .ensures)
 
 returns-2 : tie.Need-returns-2
-unfolding readByte pick
+unfolding readByte firstOf pick
 returns-2 c = simp (c .before .before .if1 .left, eq-eqb _ _ (c .if2 .taken), c .before .before .before .status-byte .ensures)
 
 first-in-mask-requires : tie.Need-first-in-mask-requires
@@ -26,8 +28,10 @@ next-register-requires : tie.Need-next-register-requires
 next-register-requires c κs = search needs
 
 returns-3 : tie.Need-returns-3
-unfolding readByte pick
-returns-3 c = simp (c .before .before .before .before .before .before .if1 .left, ne-eqb _ _ (c .before .before .before .before .if2 .left), c .before .before .before .before .before .before .before .status-byte .ensures, c .before .before .before .first-in-mask .ensures, c .before .before .register-byte .ensures, c .before .next-register .ensures)
+unfolding readByte firstOf pick
+returns-3 c =
+    let p = c .before .before .before .before in
+    simp (p .before .before .if1 .left, ne-eqb _ _ (p .if2 .left), c .before .before .before .first-in-mask .ensures, c .before .before .register-byte .ensures, c .before .next-register .ensures)
 
 pub read-spec : {M : Type 1} → statement M
 read-spec =

@@ -1,6 +1,8 @@
-use Rattle.rules.specs.Choice.{pick}
+-- A number chooses its row; any other passes all rows by.
+-- Assumes nothing.
+use Rattle.rules.specs.Choice.{pick, firstOf}
 use Rattle.rules.specs.Readback.{registerByte}
-use borrow.Author.Tests.{eq-eqb, ne-eqb}
+use borrow.Author.Tests.{ne-eqb}
 use borrow.Author.Needs.{needs}
 use Rattle.registers.proofs.readback.register_byte.Statement.{statement}
 use Rattle.registers.proofs.readback.register_byte.Tie as tie
@@ -9,22 +11,22 @@ status-byte-requires : tie.Need-status-byte-requires
 status-byte-requires c κs = search needs
 
 returns : tie.Need-returns
-unfolding registerByte pick
-returns c = simp (eq-eqb _ _ (c .before .before .if1 .taken), c .status-byte .ensures)
+unfolding registerByte firstOf pick
+returns c = simp (c .before .before .if1 .taken, c .status-byte .ensures)
 
 low-requires : tie.Need-low-requires
 low-requires c κs = search needs
 
 returns-2 : tie.Need-returns-2
-unfolding registerByte pick
-returns-2 c = simp (ne-eqb _ _ (c .before .before .if1 .left), eq-eqb _ _ (c .before .if2 .taken), c .low .ensures)
+unfolding registerByte firstOf pick
+returns-2 c = simp (c .before .if2 .taken, c .low .ensures)
 
 high-requires : tie.Need-high-requires
 high-requires c κs = search needs
 
 returns-3 : tie.Need-returns-3
-unfolding registerByte pick
-returns-3 c = simp (ne-eqb _ _ (c .before .before .before .if1 .left), ne-eqb _ _ (c .before .before .if2 .left), eq-eqb _ _ (c .before .if3 .taken), c .high .ensures)
+unfolding registerByte firstOf pick
+returns-3 c = simp (c .before .if3 .taken, c .high .ensures)
 
 wide-requires : tie.Need-wide-requires
 wide-requires c κs = search needs
@@ -33,15 +35,15 @@ low-requires-2 : tie.Need-low-requires-2
 low-requires-2 c κs = search needs
 
 returns-4 : tie.Need-returns-4
-unfolding registerByte pick
-returns-4 c = simp (ne-eqb _ _ (c .before .before .before .before .before .if1 .left), ne-eqb _ _ (c .before .before .before .before .if2 .left), ne-eqb _ _ (c .before .before .before .if3 .left), eq-eqb _ _ (c .before .if4 .taken), c .before .before .wide .ensures, c .low2 .ensures)
+unfolding registerByte firstOf pick
+returns-4 c = simp (c .before .if4 .taken, c .before .before .wide .ensures, c .low2 .ensures)
 
 high-requires-2 : tie.Need-high-requires-2
 high-requires-2 c κs = search needs
 
 returns-5 : tie.Need-returns-5
-unfolding registerByte pick
-returns-5 c = simp (ne-eqb _ _ (c .before .before .before .before .before .before .if1 .left), ne-eqb _ _ (c .before .before .before .before .before .if2 .left), ne-eqb _ _ (c .before .before .before .before .if3 .left), ne-eqb _ _ (c .before .before .if4 .left), eq-eqb _ _ (c .before .if5 .taken), c .before .before .before .wide .ensures, c .high2 .ensures)
+unfolding registerByte firstOf pick
+returns-5 c = simp (c .before .if5 .taken, c .before .before .before .wide .ensures, c .high2 .ensures)
 
 wide-requires-2 : tie.Need-wide-requires-2
 wide-requires-2 c κs = search needs
@@ -50,15 +52,17 @@ low-requires-3 : tie.Need-low-requires-3
 low-requires-3 c κs = search needs
 
 returns-6 : tie.Need-returns-6
-unfolding registerByte pick
-returns-6 c = simp (ne-eqb _ _ (c .before .before .before .before .before .before .before .before .if1 .left), ne-eqb _ _ (c .before .before .before .before .before .before .before .if2 .left), ne-eqb _ _ (c .before .before .before .before .before .before .if3 .left), ne-eqb _ _ (c .before .before .before .before .if4 .left), ne-eqb _ _ (c .before .before .before .if5 .left), eq-eqb _ _ (c .before .if6 .taken), c .before .before .wide2 .ensures, c .low3 .ensures)
+unfolding registerByte firstOf pick
+returns-6 c = simp (c .before .if6 .taken, c .before .before .wide2 .ensures, c .low3 .ensures)
 
 high-requires-3 : tie.Need-high-requires-3
 high-requires-3 c κs = search needs
 
 returns-7 : tie.Need-returns-7
-unfolding registerByte pick
-returns-7 c = simp (ne-eqb _ _ (c .before .before .before .before .before .before .before .before .if1 .left), ne-eqb _ _ (c .before .before .before .before .before .before .before .if2 .left), ne-eqb _ _ (c .before .before .before .before .before .before .if3 .left), ne-eqb _ _ (c .before .before .before .before .if4 .left), ne-eqb _ _ (c .before .before .before .if5 .left), ne-eqb _ _ (c .before .if6 .left), c .before .before .wide2 .ensures, c .high3 .ensures)
+unfolding registerByte firstOf pick
+returns-7 c =
+    let p = c .before .before .before .before in
+    simp (ne-eqb _ _ (p .before .before .before .before .if1 .left), ne-eqb _ _ (p .before .before .before .if2 .left), ne-eqb _ _ (p .before .before .if3 .left), ne-eqb _ _ (p .if4 .left), ne-eqb _ _ (c .before .before .before .if5 .left), ne-eqb _ _ (c .before .if6 .left), c .before .before .wide2 .ensures, c .high3 .ensures)
 
 pub register-byte-spec : {M : Type 1} → statement M
 register-byte-spec =

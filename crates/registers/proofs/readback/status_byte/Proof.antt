@@ -1,3 +1,5 @@
+-- Both bits are tried.
+-- Assumes nothing.
 use Rattle.rules.specs.Choice.{pick}
 use Rattle.rules.specs.Readback.{statusByte}
 use Rattle.registers.proofs.readback.status_byte.Statement.{statement}

@@ -1,3 +1,5 @@
+-- The call gives the new part, and the core takes it.
+-- Assumes nothing.
 use borrow.Author.Needs.{needs}
 use Rattle.registers.proofs.register.length_high_written.Statement.{statement}
 use Rattle.registers.proofs.register.length_high_written.Tie as tie

@@ -1,6 +1,8 @@
-use Rattle.rules.specs.Choice.{pick}
+-- A code chooses its row; any other passes all rows by.
+-- Assumes nothing.
+use Rattle.rules.specs.Choice.{pick, firstOf}
 use Rattle.rules.specs.Registers.{parameter}
-use borrow.Author.Tests.{eq-eqb, ne-eqb}
+use borrow.Author.Tests.{ne-eqb}
 use borrow.Author.Needs.{needs}
 use Rattle.registers.proofs.register.write_parameter.Statement.{statement}
 use Rattle.registers.proofs.register.write_parameter.Tie as tie
@@ -9,71 +11,74 @@ a-low-written-requires : tie.Need-a-low-written-requires
 a-low-written-requires c κs = search needs
 
 returns : tie.Need-returns
-unfolding parameter pick
-returns c = simp (eq-eqb _ _ (c .before .if1 .taken), c .a-low-written .ensures)
+unfolding parameter firstOf pick
+returns c = simp (c .before .if1 .taken, c .a-low-written .ensures)
 
 a-high-written-requires : tie.Need-a-high-written-requires
 a-high-written-requires c κs = search needs
 
 returns-2 : tie.Need-returns-2
-unfolding parameter pick
-returns-2 c = simp (ne-eqb _ _ (c .before .before .if1 .left), eq-eqb _ _ (c .before .if2 .taken), c .a-high-written .ensures)
+unfolding parameter firstOf pick
+returns-2 c = simp (c .before .if2 .taken, c .a-high-written .ensures)
 
 length-low-written-requires : tie.Need-length-low-written-requires
 length-low-written-requires c κs = search needs
 
 returns-3 : tie.Need-returns-3
-unfolding parameter pick
-returns-3 c = simp (ne-eqb _ _ (c .before .before .before .if1 .left), ne-eqb _ _ (c .before .before .if2 .left), eq-eqb _ _ (c .before .if3 .taken), c .length-low-written .ensures)
+unfolding parameter firstOf pick
+returns-3 c = simp (c .before .if3 .taken, c .length-low-written .ensures)
 
 length-high-written-requires : tie.Need-length-high-written-requires
 length-high-written-requires c κs = search needs
 
 returns-4 : tie.Need-returns-4
-unfolding parameter pick
-returns-4 c = simp (ne-eqb _ _ (c .before .before .before .before .if1 .left), ne-eqb _ _ (c .before .before .before .if2 .left), ne-eqb _ _ (c .before .before .if3 .left), eq-eqb _ _ (c .before .if4 .taken), c .length-high-written .ensures)
+unfolding parameter firstOf pick
+returns-4 c = simp (c .before .if4 .taken, c .length-high-written .ensures)
 
 a-timing-written-requires : tie.Need-a-timing-written-requires
 a-timing-written-requires c κs = search needs
 
 returns-5 : tie.Need-returns-5
-unfolding parameter pick
-returns-5 c = simp (ne-eqb _ _ (c .before .before .before .before .before .if1 .left), ne-eqb _ _ (c .before .before .before .before .if2 .left), ne-eqb _ _ (c .before .before .before .if3 .left), ne-eqb _ _ (c .before .before .if4 .left), eq-eqb _ _ (c .before .if5 .taken), c .a-timing-written .ensures)
+unfolding parameter firstOf pick
+returns-5 c = simp (c .before .if5 .taken, c .a-timing-written .ensures)
 
 b-timing-written-requires : tie.Need-b-timing-written-requires
 b-timing-written-requires c κs = search needs
 
 returns-6 : tie.Need-returns-6
-unfolding parameter pick
-returns-6 c = simp (ne-eqb _ _ (c .before .before .before .before .before .before .if1 .left), ne-eqb _ _ (c .before .before .before .before .before .if2 .left), ne-eqb _ _ (c .before .before .before .before .if3 .left), ne-eqb _ _ (c .before .before .before .if4 .left), ne-eqb _ _ (c .before .before .if5 .left), eq-eqb _ _ (c .before .if6 .taken), c .b-timing-written .ensures)
+unfolding parameter firstOf pick
+returns-6 c = simp (c .before .if6 .taken, c .b-timing-written .ensures)
 
 prescaler-written-requires : tie.Need-prescaler-written-requires
 prescaler-written-requires c κs = search needs
 
 returns-7 : tie.Need-returns-7
-unfolding parameter pick
-returns-7 c = simp (ne-eqb _ _ (c .before .before .before .before .before .before .before .if1 .left), ne-eqb _ _ (c .before .before .before .before .before .before .if2 .left), ne-eqb _ _ (c .before .before .before .before .before .if3 .left), ne-eqb _ _ (c .before .before .before .before .if4 .left), ne-eqb _ _ (c .before .before .before .if5 .left), ne-eqb _ _ (c .before .before .if6 .left), eq-eqb _ _ (c .before .if7 .taken), c .prescaler-written .ensures)
+unfolding parameter firstOf pick
+returns-7 c = simp (c .before .if7 .taken, c .prescaler-written .ensures)
 
 b-low-written-requires : tie.Need-b-low-written-requires
 b-low-written-requires c κs = search needs
 
 returns-8 : tie.Need-returns-8
-unfolding parameter pick
-returns-8 c = simp (ne-eqb _ _ (c .before .before .before .before .before .before .before .before .if1 .left), ne-eqb _ _ (c .before .before .before .before .before .before .before .if2 .left), ne-eqb _ _ (c .before .before .before .before .before .before .if3 .left), ne-eqb _ _ (c .before .before .before .before .before .if4 .left), ne-eqb _ _ (c .before .before .before .before .if5 .left), ne-eqb _ _ (c .before .before .before .if6 .left), ne-eqb _ _ (c .before .before .if7 .left), eq-eqb _ _ (c .before .if8 .taken), c .b-low-written .ensures)
+unfolding parameter firstOf pick
+returns-8 c = simp (c .before .if8 .taken, c .b-low-written .ensures)
 
 b-high-written-requires : tie.Need-b-high-written-requires
 b-high-written-requires c κs = search needs
 
 returns-9 : tie.Need-returns-9
-unfolding parameter pick
-returns-9 c = simp (ne-eqb _ _ (c .before .before .before .before .before .before .before .before .before .if1 .left), ne-eqb _ _ (c .before .before .before .before .before .before .before .before .if2 .left), ne-eqb _ _ (c .before .before .before .before .before .before .before .if3 .left), ne-eqb _ _ (c .before .before .before .before .before .before .if4 .left), ne-eqb _ _ (c .before .before .before .before .before .if5 .left), ne-eqb _ _ (c .before .before .before .before .if6 .left), ne-eqb _ _ (c .before .before .before .if7 .left), ne-eqb _ _ (c .before .before .if8 .left), eq-eqb _ _ (c .before .if9 .taken), c .b-high-written .ensures)
+unfolding parameter firstOf pick
+returns-9 c = simp (c .before .if9 .taken, c .b-high-written .ensures)
 
 mask-written-requires : tie.Need-mask-written-requires
 mask-written-requires c κs = search needs
 
 returns-10 : tie.Need-returns-10
-unfolding parameter pick
-returns-10 c = simp (ne-eqb _ _ (c .before .before .before .before .before .before .before .before .before .if1 .left), ne-eqb _ _ (c .before .before .before .before .before .before .before .before .if2 .left), ne-eqb _ _ (c .before .before .before .before .before .before .before .if3 .left), ne-eqb _ _ (c .before .before .before .before .before .before .if4 .left), ne-eqb _ _ (c .before .before .before .before .before .if5 .left), ne-eqb _ _ (c .before .before .before .before .if6 .left), ne-eqb _ _ (c .before .before .before .if7 .left), ne-eqb _ _ (c .before .before .if8 .left), ne-eqb _ _ (c .before .if9 .left), c .mask-written .ensures)
+unfolding parameter firstOf pick
+returns-10 c =
+    let q = c .before .before .before in
+    let p = q .before .before .before in
+    simp (ne-eqb _ _ (p .before .before .before .if1 .left), ne-eqb _ _ (p .before .before .if2 .left), ne-eqb _ _ (p .before .if3 .left), ne-eqb _ _ (p .if4 .left), ne-eqb _ _ (q .before .before .if5 .left), ne-eqb _ _ (q .before .if6 .left), ne-eqb _ _ (q .if7 .left), ne-eqb _ _ (c .before .before .if8 .left), ne-eqb _ _ (c .before .if9 .left), c .mask-written .ensures)
 
 pub write-parameter-spec : {M : Type 1} → statement M
 write-parameter-spec =

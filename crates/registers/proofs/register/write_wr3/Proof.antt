@@ -1,3 +1,5 @@
+-- The test of bit 6 chooses its branch.
+-- Assumes nothing.
 use Rattle.rules.specs.Choice.{pick}
 use Rattle.rules.specs.Registers.{wr3}
 use borrow.Author.Tests.{eq-eqb, ne-eqb}

@@ -1,9 +1,0 @@
-use Rattle.rules.proofs.Choice.{strict}
-use Rattle.registers.proofs.register.is_wr4.Statement.{statement}
-use Rattle.registers.proofs.register.is_wr4.Tie as tie
-
-returns : tie.Need-returns
-returns c = simp (strict)
-
-pub is-wr4-spec : {M : Type 1} → statement M
-is-wr4-spec = tie.close (tie.spec returns)

@@ -1,9 +1,0 @@
-use Rattle.rules.proofs.Choice.{strict}
-use Rattle.registers.proofs.register.is_wr5.Statement.{statement}
-use Rattle.registers.proofs.register.is_wr5.Tie as tie
-
-returns : tie.Need-returns
-returns c = simp (strict)
-
-pub is-wr5-spec : {M : Type 1} → statement M
-is-wr5-spec = tie.close (tie.spec returns)
