@@ -73,7 +73,7 @@ either false f g = g refl
 
 -- ---- every test holds
 
-every-first : (t : Bool) (ts : List Bool) → every (t ∷ ts) ≡ true → t ≡ true
+pub every-first : (t : Bool) (ts : List Bool) → every (t ∷ ts) ≡ true → t ≡ true
 unfolding every pick
 every-first true ts e = refl
 every-first false ts e = clash e

@@ -15,7 +15,7 @@ use Rattle.rules.specs.Exactly.{onward, ChosenRead, ChosenExact, LowFirs
 use Rattle.rules.specs.Opened.{opened}
 use Rattle.rules.specs.declared.Status.{Status}
 use Rattle.rules.specs.declared.Core.{Core}
-use Rattle.rules.proofs.Choice.{clash, pick-cases, below, _⨾_, table, pick-true, pick-false, either, any-cases, any-none}
+use Rattle.rules.proofs.Choice.{clash, pick-cases, below, _⨾_, table, pick-true, pick-false, either, any-cases, any-none, pick-both}
 use Rattle.rules.proofs.Trying.{allBelow, below-at}
 use Rattle.rules.proofs.Steady.{steady-readback, kept-from, kept-steady, kept-slot, kept-progress}
 
@@ -130,11 +130,8 @@ status-small s =
 register-small : (k : ℕ) (c : Core) → registerByte k c < 256
 unfolding registerByte
 register-small k c =
-    pick-both (λ n. n < 256) _ _ _ (status-small (c .status))
-    (pick-both (λ n. n < 256) _ _ _ (omega arith)
-    (pick-both (λ n. n < 256) _ _ _ (omega arith)
-    (pick-both (λ n. n < 256) _ _ _ (omega arith)
-    (pick-both (λ n. n < 256) _ _ _ (omega arith) (pick-both (λ n. n < 256) _ _ _ (omega arith) (omega arith))))))
+    table (λ (n : ℕ). n < 256)
+    (status-small (c .status) ⨾ omega arith ⨾ omega arith ⨾ omega arith ⨾ omega arith ⨾ omega arith ⨾ below (omega arith))
 
 pub low-first : (c : Core) → LowFirst c
 unfolding opened
