@@ -8,7 +8,6 @@ use mathlib.Core.List.{List, [], _∷_}
 use borrow.Author.Tests.{not-true, not-false}
 use Rattle.rules.specs.Choice.{pick, Row, firstOf, every, any, means}
 
-infixr 5 _⨾_
 -- true is not false
 pub clash {ℓ} : {X : Type ℓ} → false ≡ true → X
 clash e = absurd (let z : _≡_ {A = ℕ} 0 1 = cc in omega arith)
@@ -41,6 +40,7 @@ pick-ap f false x y = refl
 
 -- ---- the first row of a table
 
+infixr 5 _⨾_
 -- something holds of what each row gives, and of what stands below the table
 pub data Rows {X : Type 0} (P : X → Type 0) : List (Row X) → X → Type 0 where
   below : {x : X} → P x → Rows P [] x

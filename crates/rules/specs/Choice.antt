@@ -4,7 +4,6 @@ use Prim.Native.Nat.{ℕ}
 use mathlib.Core.Bool.{Bool, true, false}
 use mathlib.Core.List.{List, [], _∷_}
 
-infix 68 _⇒_
 -- x where the test holds, else y
 unfoldable pub pick {ℓ} : {X : Type ℓ} → Bool → X → X → X
 pick true x y = x
@@ -15,6 +14,7 @@ pub record Row (X : Type 0) : Type 0 where
   pub holds : Bool
   pub result : X
 
+infix 68 _⇒_
 abbrev pub _⇒_ : {X : Type 0} → Bool → X → Row X
 t ⇒ x = record { holds = t; result = x }
 
