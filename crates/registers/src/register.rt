@@ -5,6 +5,7 @@ ghost use Rattle.rules.specs.Parts.{withA, withB, withBlock, withLength, withCo
 ghost use Rattle.rules.specs.Ports.{timed, addressedLow, addressedHigh};
 ghost use Rattle.rules.specs.Registers.{isWR0, isWR1, isWR2, isWR3, isWR4, isWR5, isWR6, wr0, wr1, wr2, wr3, wr4, wr5, register, bTimed, masked, parameter, takeParameter, inMode, effect, written};
 use crate::command;
+use parts::bytes;
 use parts::part;
 use parts::pending;
 use parts::port;
@@ -207,7 +208,7 @@ fn b_timing_written(byte: u8, c: Core) -> Core
 fn length_low_written(byte: u8, c: Core) -> Core
     ensures { λ r. ⌜ r ≡ withBlock (withLength (withLow byte (c .block .length)) (c .block)) c ⌝ }
 {
-    let length = port::with_low(byte, c.block.length);
+    let length = bytes::with_low(byte, c.block.length);
     let mut next = c;
     next.block.length = length;
     next
@@ -217,7 +218,7 @@ fn length_low_written(byte: u8, c: Core) -> Core
 fn length_high_written(byte: u8, c: Core) -> Core
     ensures { λ r. ⌜ r ≡ withBlock (withLength (withHigh byte (c .block .length)) (c .block)) c ⌝ }
 {
-    let length = port::with_high(byte, c.block.length);
+    let length = bytes::with_high(byte, c.block.length);
     let mut next = c;
     next.block.length = length;
     next
