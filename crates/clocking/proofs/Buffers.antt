@@ -12,7 +12,7 @@ use Rattle.rules.specs.WholeSlots.{movedBy, transferred}
 use Rattle.rules.specs.declared.Place.{Place}
 use Rattle.rules.specs.declared.Core.{Core}
 use Rattle.rules.proofs.Choice.{pick-true, pick-false, pick-both}
-use Rattle.rules.proofs.Counting.{clocked-keeps}
+use Rattle.rules.proofs.World.{clocked-keeps}
 use Rattle.clocking.specs.Answers.{borrowed}
 
 module _ (m l : List ℕ) (from to : Place) {byte : ℕ} (e : byte ≡ byteAt flat from (borrowed m l)) where

@@ -11,7 +11,7 @@ use Rattle.rules.specs.WholeSlots.{slotsCounted}
 use Rattle.rules.specs.declared.Slot.{Slot}
 use Rattle.rules.specs.declared.Clocks.{Clocks}
 use Rattle.rules.proofs.Choice.{pick-true}
-use Rattle.rules.proofs.Counting.{total-counted}
+use Rattle.rules.proofs.World.{total-counted}
 use Rattle.clocking.specs.Answers.{added, countedWithin, slotsCountedWithin}
 
 added-all : (count n : ℕ) → count + n ≤ most64 → added count n ≡ count + n

@@ -12,7 +12,7 @@ use Rattle.rules.specs.Choice.{pick}
 use Rattle.rules.specs.Parts.{withPointer}
 use Rattle.rules.specs.Ports.{advanced, stride, steppedBy, advancedBy}
 use Rattle.rules.specs.Blocks.{blockCount}
-use Rattle.rules.specs.Clock.{newSlot}
+use Rattle.rules.specs.Slots.{newSlot}
 use Rattle.rules.specs.Buffers.{Buffers, flat, placeOf, source, destination, transfer}
 use Rattle.rules.specs.Stretches.{least}
 use Rattle.rules.specs.WholeSlots.{atSlotStart, slotsWithin, movedBy, transferred}

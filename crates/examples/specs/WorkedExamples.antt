@@ -8,7 +8,7 @@ use mathlib.Core.List.{List, [], _∷_, _++_}
 use Rattle.rules.specs.Parts.{withCycle, withCounter, withMask, withPosition, withA, withB, withBlock, withReadback, withPending, withSlot}
 use Rattle.rules.specs.Pending.{codes}
 use Rattle.rules.specs.declared.Core.{Core}
-use Rattle.rules.specs.Clock.{slotLength}
+use Rattle.rules.specs.Slots.{slotLength}
 use Rattle.rules.specs.Bytes.{lowByte, highByte}
 use Rattle.examples.specs.Rows.{Row, row, fill, latch, send, sendRefused, expect, expectRefused, clocks, borrow, counts, memory, latches, pointers, counter, status, enabled, count, suppose, supposeCounts, clocksRefused, figure, changed, nextMove, start, failures}
 

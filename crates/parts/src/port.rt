@@ -1,24 +1,10 @@
 // What is done to a port, once for A and B.
 ghost use mathlib.Core.Path.{_≡_};
 ghost use Prim.Native.Nat.{_+_, _%_};
-ghost use Rattle.rules.specs.Bytes.{withLow, withHigh};
 ghost use Rattle.rules.specs.Parts.{withPointer};
 ghost use Rattle.rules.specs.Ports.{configured, cycleOf, timed, addressedLow, addressedHigh, resetTiming, loaded, stepped, advanced, stride};
+use crate::bytes;
 use rules::Port;
-
-// The number with its low byte replaced.
-pub fn with_low(byte: u8, n: u16) -> u16
-    ensures { λ r. ⌜ r ≡ withLow byte n ⌝ }
-{
-    n / 256 * 256 + byte as u16
-}
-
-// The number with its high byte replaced.
-pub fn with_high(byte: u8, n: u16) -> u16
-    ensures { λ r. ⌜ r ≡ withHigh byte n ⌝ }
-{
-    byte as u16 * 256 + n % 256
-}
 
 // WR1 and WR2: memory or I/O, and the pointer's step.
 pub fn configure(byte: u8, p: Port) -> Port
@@ -62,7 +48,7 @@ pub fn time(byte: u8, p: Port) -> Port
 pub fn address_low(byte: u8, p: Port) -> Port
     ensures { λ r. ⌜ r ≡ addressedLow byte p ⌝ }
 {
-    let address = with_low(byte, p.address);
+    let address = bytes::with_low(byte, p.address);
     let mut next = p;
     next.address = address;
     next
@@ -72,7 +58,7 @@ pub fn address_low(byte: u8, p: Port) -> Port
 pub fn address_high(byte: u8, p: Port) -> Port
     ensures { λ r. ⌜ r ≡ addressedHigh byte p ⌝ }
 {
-    let address = with_high(byte, p.address);
+    let address = bytes::with_high(byte, p.address);
     let mut next = p;
     next.address = address;
     next

@@ -1,7 +1,6 @@
 // The transfer slot: the one that begins, waiting in it, and who has the bus.
 ghost use mathlib.Core.Path.{_≡_};
-ghost use Rattle.rules.specs.Slots.{noSlot, waiting, busHeld, unmoved};
-ghost use Rattle.rules.specs.Clock.{slotLength, newSlot};
+ghost use Rattle.rules.specs.Slots.{noSlot, waiting, busHeld, unmoved, slotLength, newSlot};
 use rules::Core;
 use rules::Slot;
 

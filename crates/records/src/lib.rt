@@ -62,26 +62,6 @@ pub fn index(x: u16) -> usize
     x as usize
 }
 
-// The byte at a place, 0 behind the last.
-pub fn byte_at(input: &[u8], place: usize) -> u8
-    ensures { λ r. ⌜ r ≡ getD (now (input .entry)) place 0 ⌝ }
-{
-    if place < input.len() {
-        return input[place];
-    }
-    0
-}
-
-// A byte is put at a place; behind the last nothing is put.
-pub fn put_at(bytes: &mut [u8], place: usize, byte: u8)
-    ensures { λ r. ⌜ now (bytes .exit) ≡ set (now (bytes .entry)) place byte ⌝ }
-{
-    if place < bytes.len() {
-        bytes[place] = byte;
-        return;
-    }
-}
-
 // The number of the two bytes at a place, high byte first.
 fn word_at(input: &[u8], at: usize) -> u16
     requires { ⌜ at + 2 ≤ length (now input) ⌝ }

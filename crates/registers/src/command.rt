@@ -7,9 +7,8 @@ ghost use Rattle.rules.specs.PowerOn.{statusAtReset, readbackAtReset};
 use parts::block;
 use parts::part;
 use parts::port;
+use parts::power_on;
 use rules::Core;
-use rules::Readback;
-use rules::Status;
 
 // E becomes 0.
 pub fn block_ended(c: Core) -> Core
@@ -36,29 +35,11 @@ pub fn enabled(c: Core) -> Core
     next
 }
 
-// Status 3A: E set, T clear.
-pub fn status_at_reset() -> Status
-    ensures { λ r. ⌜ r ≡ statusAtReset ⌝ }
-{
-    Status { e: true, t: false }
-}
-
-// Mask 7F, reading from the start, no status read waiting.
-pub fn readback_at_reset() -> Readback
-    ensures { λ r. ⌜ r ≡ readbackAtReset ⌝ }
-{
-    Readback {
-        mask: 127,
-        position: 0,
-        waiting: false,
-    }
-}
-
 // The status byte becomes 3A.
 fn status_reset(c: Core) -> Core
     ensures { λ r. ⌜ r ≡ withStatus statusAtReset c ⌝ }
 {
-    let status = status_at_reset();
+    let status = power_on::status_at_reset();
     part::with_status(status, c)
 }
 
@@ -66,7 +47,7 @@ fn status_reset(c: Core) -> Core
 fn readback_reset(c: Core) -> Core
     ensures { λ r. ⌜ r ≡ withReadback readbackAtReset c ⌝ }
 {
-    let readback = readback_at_reset();
+    let readback = power_on::readback_at_reset();
     part::with_readback(readback, c)
 }
 

@@ -5,6 +5,7 @@ ghost use Rattle.rules.specs.Parts.{withA, withB, withBlock, withLength, withCo
 ghost use Rattle.rules.specs.Ports.{timed, addressedLow, addressedHigh};
 ghost use Rattle.rules.specs.Registers.{wr0, wr1, wr2, wr3, wr4, wr5, register, masked, parameter, carriedOut, effect, inMode, written};
 use crate::command;
+use parts::bytes;
 use parts::part;
 use parts::pending;
 use parts::port;
@@ -155,7 +156,7 @@ fn b_timing_written(byte: u8, c: Core) -> Core
 fn length_low_written(byte: u8, c: Core) -> Core
     ensures { λ r. ⌜ r ≡ withBlock (withLength (withLow byte (c .block .length)) (c .block)) c ⌝ }
 {
-    let length = port::with_low(byte, c.block.length);
+    let length = bytes::with_low(byte, c.block.length);
     let mut next = c;
     next.block.length = length;
     next
@@ -165,7 +166,7 @@ fn length_low_written(byte: u8, c: Core) -> Core
 fn length_high_written(byte: u8, c: Core) -> Core
     ensures { λ r. ⌜ r ≡ withBlock (withLength (withHigh byte (c .block .length)) (c .block)) c ⌝ }
 {
-    let length = port::with_high(byte, c.block.length);
+    let length = bytes::with_high(byte, c.block.length);
     let mut next = c;
     next.block.length = length;
     next

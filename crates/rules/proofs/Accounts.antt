@@ -23,7 +23,7 @@ use Rattle.rules.specs.History.{Event, clockNoted, counterZeroed, Past, 
 use Rattle.rules.specs.Accounts.{ofKind, clocksNoted, bytesOf, bytesNoted, heldBefore, zeroedNoted, clocksAsked, clocksAccepted, numbersOf, Demand3}
 use Rattle.rules.specs.declared.Clocks.{Clocks}
 use Rattle.rules.proofs.Choice.{pick-cases, pick-both, pick-true, pick-false, pick-ap}
-use Rattle.rules.proofs.Counting.{clocked-total}
+use Rattle.rules.proofs.World.{clocked-total}
 use Rattle.rules.proofs.Calls.{granted, grant-refuses}
 use Rattle.rules.proofs.Counter.{write-zero, write-same, read-same, clock-balanced}
 use Rattle.rules.proofs.Splitting.{grant-splits}

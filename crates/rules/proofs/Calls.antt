@@ -24,8 +24,8 @@ use Rattle.rules.proofs.Choice.{pick-cases, pick-true, pick-false, eith
 use Rattle.rules.proofs.Validity.{core-parts, parts-core}
 use Rattle.rules.proofs.Writing.{write-kept}
 use Rattle.rules.proofs.Reading.{read-kept}
-use Rattle.rules.proofs.Clocking.{clock-kept}
-use Rattle.rules.proofs.Counting.{clocked-kept, clocked-total}
+use Rattle.rules.proofs.Clock.{clock-kept}
+use Rattle.rules.proofs.World.{clocked-kept, clocked-total}
 
 -- ---- the first test that hits
 

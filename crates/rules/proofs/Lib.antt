@@ -1,6 +1,7 @@
 pub mod Choice
 pub mod Trying
 pub mod Bytes
+pub mod Blocks
 pub mod Validity
 pub mod Slots
 pub mod Ports
@@ -10,8 +11,8 @@ pub mod Selection
 pub mod Steady
 pub mod Writing
 pub mod Reading
-pub mod Clocking
-pub mod Counting
+pub mod Clock
+pub mod World
 pub mod Spans
 pub mod Stretches
 pub mod WholeSlots

@@ -24,7 +24,8 @@ use Rattle.rules.specs.declared.Core.{Core}
 use Rattle.rules.proofs.Choice.{clash, pick-true, pick-false, pick-cases, pick-both, either, all-true}
 use Rattle.rules.proofs.Slots.{unmoved-below}
 use Rattle.rules.proofs.Steady.{kept-progress}
-use Rattle.rules.proofs.Clocking.{unfinished-room, clock-kept}
+use Rattle.rules.proofs.Blocks.{unfinished-room}
+use Rattle.rules.proofs.Clock.{clock-kept}
 use Rattle.rules.proofs.Calls.{device-valid, ValidSystem, flat-memory, stays-valid}
 use Rattle.rules.proofs.Refusing.{access-exact, grant-exact, refusals-exact}
 use Rattle.rules.proofs.Counter.{clock-balanced}

@@ -16,7 +16,7 @@ use Rattle.rules.specs.declared.Clocks.{Clocks}
 use Rattle.rules.specs.declared.Core.{Core}
 use Rattle.rules.specs.declared.Span.{Span}
 use Rattle.rules.proofs.Choice.{clash, pick-false, any-cases, any-none}
-use Rattle.rules.proofs.Counting.{clocked-zero, clocked-suc}
+use Rattle.rules.proofs.World.{clocked-zero, clocked-suc}
 
 -- a kind's number is the kind's
 pub kind-of-code : (k : Kind) → kindOf (kindCode k) ≡ k

@@ -1,6 +1,6 @@
 -- Grants split because n clocks keep a valid device valid and its buffers' lengths, and clocks of m + n are n after m.
 -- Assumes nothing.
-use Prim.Native.Nat.{ℕ, zero, suc, _+_}
+use Prim.Native.Nat.{ℕ, _+_}
 use native.Mathlib.Omega.{arith}
 use mathlib.Core.Path.{_≡_, refl, sym, _∙_, ap, subst}
 use mathlib.Core.List.{List, [], _∷_}
@@ -14,7 +14,7 @@ use Rattle.rules.specs.Calls.{Answer, grantNumber, grant}
 use Rattle.rules.specs.Splitting.{sumOf, AcceptedInTurn, Splits}
 use Rattle.rules.specs.declared.Place.{Place}
 use Rattle.rules.proofs.Choice.{pick-cases, pick-both}
-use Rattle.rules.proofs.Counting.{clocked-zero, clocked-add, clocked-total, clocked-kept}
+use Rattle.rules.proofs.World.{clocked-zero, clocked-add, clocked-total, clocked-keeps, clocked-kept}
 use Rattle.rules.proofs.Calls.{Granted, granted, grantable, grant-accepts, valid-device, device-valid}
 
 module _ {M : Type 0} (σ : Store M) where
@@ -36,12 +36,10 @@ module _ {M : Type 0} (σ : Store M) where
       pick-both (SameBuffers (w .buffers)) _ _ _ (put-same _ _ (w .buffers)) (record { memory = refl; latches = refl })
 
   clocked-same : (n : ℕ) (s : System M) → SameBuffers (s .world .buffers) (clocked σ n s .world .buffers)
-  unfolding clocked
-  clocked-same zero s = record { memory = refl; latches = refl }
-  clocked-same (suc n) s =
-      let h = clocked-same n s in
-      let k = step-same (clocked σ n s .world) in
-      record { memory = k .memory ∙ h .memory; latches = k .latches ∙ h .latches }
+  clocked-same n s =
+      clocked-keeps σ (λ (t : System M). SameBuffers (s .world .buffers) (t .world .buffers))
+      (λ t h. let k = step-same (t .world) in record { memory = k .memory ∙ h .memory; latches = k .latches ∙ h .latches })
+      n s (record { memory = refl; latches = refl })
 
   pub grant-same : (s : System M) (n : ℕ) → SameBuffers (s .world .buffers) (grant σ s n .system .world .buffers)
   unfolding grant

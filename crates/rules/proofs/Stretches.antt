@@ -13,7 +13,8 @@ use borrow.Author.Tests.{eq-eqb, ne-eqb, le-leb, lt-leb, lt-ltb, le-ltb, eqb-tru
 use Rattle.rules.specs.Choice.{pick, any}
 use Rattle.rules.specs.Parts.{withSlot}
 use Rattle.rules.specs.Blocks.{finished}
-use Rattle.rules.specs.Clock.{Kind, busClock, cpuClock, countedBy, Clock, Ending, clock, newSlot, moved, withElapsed, stopped, movesAt, movedAt, waitKind, kindAt, slotEnd, clockEnd, slotClock, firstClock, clockOf}
+use Rattle.rules.specs.Slots.{newSlot}
+use Rattle.rules.specs.Clock.{Kind, busClock, cpuClock, countedBy, Clock, Ending, clock, moved, withElapsed, stopped, movesAt, movedAt, waitKind, kindAt, slotEnd, clockEnd, slotClock, firstClock, clockOf}
 use Rattle.rules.specs.Buffers.{Store, Buffers, source, destination}
 use Rattle.rules.specs.World.{system, buffersAfter, clocked}
 use Rattle.rules.specs.Spans.{kindCode, ticks, span, IsSpan, endsSlot, IsLongest}

@@ -7,7 +7,7 @@ use native.Mathlib.Nat.{mul-pos}
 use mathlib.Core.Path.{_≡_, sym, _∙_, ap}
 use Rattle.rules.specs.Validity.{total, most64}
 use Rattle.rules.specs.Facts.{Kept}
-use Rattle.rules.specs.Clock.{newSlot}
+use Rattle.rules.specs.Slots.{newSlot}
 use Rattle.rules.specs.Buffers.{Store}
 use Rattle.rules.specs.World.{System, clocked}
 use Rattle.rules.specs.Spans.{IsSpan, spanPassed}
@@ -16,8 +16,8 @@ use Rattle.rules.specs.Turns.{Ready, Passed, TurnsAreClocks}
 use Rattle.rules.specs.declared.Clocks.{Clocks}
 use Rattle.rules.specs.declared.Core.{Core}
 use Rattle.rules.specs.declared.Span.{Span}
-use Rattle.rules.proofs.Clocking.{count-most}
-use Rattle.rules.proofs.Counting.{clocked-zero, clocked-add, clocked-kept, clocked-total}
+use Rattle.rules.proofs.Blocks.{count-most}
+use Rattle.rules.proofs.World.{clocked-zero, clocked-add, clocked-kept, clocked-total}
 use Rattle.rules.proofs.Spans.{span-clocked}
 use Rattle.rules.proofs.WholeSlots.{Starts, kept-starts, IsRun, run-within, slots-are-clocks}
 

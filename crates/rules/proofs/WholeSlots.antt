@@ -12,9 +12,9 @@ use Rattle.rules.specs.Choice.{pick}
 use Rattle.rules.specs.Parts.{withCounter, withBlock, withSlot}
 use Rattle.rules.specs.Blocks.{blockCount, finished}
 use Rattle.rules.specs.Ports.{steppedBy}
-use Rattle.rules.specs.Slots.{noSlot}
+use Rattle.rules.specs.Slots.{noSlot, newSlot}
 use Rattle.rules.specs.Facts.{ValidParts, Kept, SlotLength, busTime, prescaled, ValidSlot, resting, running}
-use Rattle.rules.specs.Clock.{busClock, countedBy, Ending, newSlot, moved, withElapsed, movesAt, movedAt, waitKind, kindAt, slotEnd, clockEnd, slotClock}
+use Rattle.rules.specs.Clock.{busClock, countedBy, Ending, moved, withElapsed, movesAt, movedAt, waitKind, kindAt, slotEnd, clockEnd, slotClock}
 use Rattle.rules.specs.Buffers.{Store, Buffers, source, destination, transfer}
 use Rattle.rules.specs.World.{System, system, buffersAfter, clocked}
 use Rattle.rules.specs.WholeSlots.{movedBy, slotsCounted, transferred, slotsPassed, SlotsAreClocks, atSlotStart, slotsWithin}
@@ -25,8 +25,8 @@ use Rattle.rules.proofs.Choice.{pick-true, pick-false, pick-cases, eith
 use Rattle.rules.proofs.Slots.{unmoved-first}
 use Rattle.rules.proofs.Validity.{progress-facts}
 use Rattle.rules.proofs.Steady.{kept-steady, kept-slot}
-use Rattle.rules.proofs.Clocking.{new-length}
-use Rattle.rules.proofs.Counting.{clocked-add}
+use Rattle.rules.proofs.Clock.{new-length}
+use Rattle.rules.proofs.World.{clocked-add}
 use Rattle.rules.proofs.Spans.{kind-of-code, counted-none, span-clocked}
 use Rattle.rules.proofs.Stretches.{clock-first, clock-later, Runs, Part, toMove, behind, stretch-span, least-facts}
 

@@ -1,6 +1,6 @@
 -- One clock of the core. What a clock does to the core, its kind and whether a byte moves depend on the core alone.
 -- Assumes nothing.
-use Prim.Native.Nat.{ℕ, _+_, _*_}
+use Prim.Native.Nat.{ℕ, _+_}
 use mathlib.Core.Bool.{Bool, true, false}
 use mathlib.Core.List.{[], _∷_}
 use mathlib.Core.Option.{Option, none, some}
@@ -9,10 +9,9 @@ use Rattle.rules.specs.Choice.{pick, every}
 use Rattle.rules.specs.Parts.{withCounter, withT, withA, withB, withBlock, withStatus, withSlot}
 use Rattle.rules.specs.Ports.{advanced}
 use Rattle.rules.specs.Blocks.{blockCount, finished}
-use Rattle.rules.specs.Slots.{noSlot}
+use Rattle.rules.specs.Slots.{noSlot, newSlot}
 use Rattle.rules.specs.Commands.{blockEnded, disable, load}
 use Rattle.rules.specs.declared.Port.{Port}
-use Rattle.rules.specs.declared.Slot.{Slot}
 use Rattle.rules.specs.declared.Clocks.{Clocks}
 use Rattle.rules.specs.declared.Core.{Core}
 
@@ -44,20 +43,6 @@ pub record Clock : Type 0 where
 
 abbrev pub clock : Kind → Bool → Option ℕ → Core → Clock
 clock k m z c = record { kind = k; moves = m; zeroed = z; next = c }
-
--- the slot's length: the bus time, or with a prescaler 32 clocks for each unit of it, which contain the bus time
-unfoldable pub slotLength : ℕ → ℕ → ℕ
-slotLength prescaler bus = pick (eqb prescaler 0) bus (32 * prescaler)
-
--- the slot that the registers start: its bus time, its length, and whether it is burst
-abbrev pub newSlot : Core → Slot
-newSlot c =
-    record {
-      elapsed = 0;
-      bus = c .a .cycle + c .b .cycle;
-      length = slotLength (c .control .prescaler) (c .a .cycle + c .b .cycle);
-      burst = c .control .burst;
-    }
 
 -- the core after n bytes, one at least, with the ports behind them: the counter n more, T set
 abbrev pub afterBytes : ℕ → Port → Port → Core → Core

@@ -3,14 +3,14 @@
 use Rattle.rules.specs.Choice.{pick, firstOf, every, any, means, firstHit}
 use Rattle.rules.specs.Ports.{cycleOf, stepped}
 use Rattle.rules.specs.Blocks.{blockCount, finished}
-use Rattle.rules.specs.Slots.{waiting, busHeld, unmoved}
+use Rattle.rules.specs.Slots.{waiting, busHeld, unmoved, slotLength}
 use Rattle.rules.specs.Selection.{selects}
 use Rattle.rules.specs.Pending.{ask, asked, usedUp, pendingAfter, follows, validPending}
 use Rattle.rules.specs.Validity.{validPort, validReadback, restingSlot, validLength, runningSlot, validSlot, validProgress, validCore, valid}
 use Rattle.rules.specs.Commands.{enable, readingCommand, command}
 use Rattle.rules.specs.Registers.{wr3, register, parameter, carriedOut, effect}
 use Rattle.rules.specs.Readback.{statusByte, registerByte, after, seek, readByte}
-use Rattle.rules.specs.Clock.{slotLength, movedAt, kindAt, slotEnd, clockEnd, slotClock, firstClock, clockOf}
+use Rattle.rules.specs.Clock.{movedAt, kindAt, slotEnd, clockEnd, slotClock, firstClock, clockOf}
 use Rattle.rules.specs.Buffers.{placed, source, destination, byteAt, put}
 use Rattle.rules.specs.World.{buffersAfter, clocked}
 use Rattle.rules.specs.Refusals.{accessRefusal, lentRefusal, grantRefusal}

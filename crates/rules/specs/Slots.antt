@@ -1,15 +1,30 @@
--- The transfer slot (document 01: slot): waiting in it, and who has the bus.
+-- The transfer slot (document 01: slot): the one that begins, waiting in it, and who has the bus.
 -- Assumes nothing.
+use Prim.Native.Nat.{ℕ, _+_, _*_}
 use mathlib.Core.Bool.{Bool, false, not}
 use mathlib.Core.List.{[], _∷_}
 use lib.Dec.{leb, ltb, eqb}
-use Rattle.rules.specs.Choice.{every, any}
+use Rattle.rules.specs.Choice.{pick, every, any}
 use Rattle.rules.specs.declared.Slot.{Slot}
 use Rattle.rules.specs.declared.Core.{Core}
 
 -- no clock of a slot has elapsed
 abbrev pub noSlot : Slot
 noSlot = record { elapsed = 0; bus = 0; length = 0; burst = false }
+
+-- the slot's length: the bus time, or with a prescaler 32 clocks for each unit of it, which contain the bus time
+unfoldable pub slotLength : ℕ → ℕ → ℕ
+slotLength prescaler bus = pick (eqb prescaler 0) bus (32 * prescaler)
+
+-- the slot that the registers start: its bus time, its length, and whether it is burst
+abbrev pub newSlot : Core → Slot
+newSlot c =
+    record {
+      elapsed = 0;
+      bus = c .a .cycle + c .b .cycle;
+      length = slotLength (c .control .prescaler) (c .a .cycle + c .b .cycle);
+      burst = c .control .burst;
+    }
 
 -- it waits in a burst slot: the bus time has elapsed and the length has not
 unfoldable pub waiting : Slot → Bool

@@ -9,7 +9,8 @@ use lib.Dec.{eqb, ltb}
 use Rattle.rules.specs.Choice.{pick, every}
 use Rattle.rules.specs.Parts.{withSlot}
 use Rattle.rules.specs.Blocks.{finished}
-use Rattle.rules.specs.Clock.{cpuClock, countedBy, newSlot, kindAt}
+use Rattle.rules.specs.Slots.{newSlot}
+use Rattle.rules.specs.Clock.{cpuClock, countedBy, kindAt}
 use Rattle.rules.specs.Buffers.{Store, Buffers}
 use Rattle.rules.specs.World.{system, clocked}
 use Rattle.rules.specs.declared.Slot.{Slot}

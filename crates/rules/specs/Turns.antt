@@ -4,7 +4,7 @@ use Prim.Native.Nat.{ℕ, _+_, _*_, _-_, _≤_, _<_}
 use mathlib.Core.Path.{_≡_}
 use Rattle.rules.specs.Validity.{total, most64}
 use Rattle.rules.specs.Facts.{Kept}
-use Rattle.rules.specs.Clock.{newSlot}
+use Rattle.rules.specs.Slots.{newSlot}
 use Rattle.rules.specs.Buffers.{Store}
 use Rattle.rules.specs.World.{System, clocked}
 use Rattle.rules.specs.Spans.{IsSpan, spanPassed}

@@ -9,7 +9,8 @@ use Rattle.rules.specs.Choice.{pick, every}
 use Rattle.rules.specs.Ports.{advancedBy}
 use Rattle.rules.specs.Blocks.{blockCount, finished}
 use Rattle.rules.specs.Facts.{Kept}
-use Rattle.rules.specs.Clock.{busClock, countedBy, newSlot, afterBytes, waitKind, slotEnd}
+use Rattle.rules.specs.Slots.{newSlot}
+use Rattle.rules.specs.Clock.{busClock, countedBy, afterBytes, waitKind, slotEnd}
 use Rattle.rules.specs.Buffers.{Store, Buffers, source, destination, transfer}
 use Rattle.rules.specs.World.{System, system, clocked}
 use Rattle.rules.specs.Stretches.{least}

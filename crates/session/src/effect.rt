@@ -5,6 +5,7 @@ ghost use Rattle.rules.specs.Entries.{poked};
 ghost use Rattle.zxndma.specs.Answers.{systemOf};
 ghost use Rattle.session.specs.Effects.{pokes, effectAnswer};
 ghost use Rattle.session.specs.Effects.{effect as effectOf};
+use parts::bytes;
 use records::Record;
 use zxndma::Device;
 
@@ -22,8 +23,8 @@ fn poke(input: &[u8], start: usize, end: usize, memory: &mut [u8], address: u16)
     let mut at = start;
     let mut to = address;
     while at < end {
-        let byte = records::byte_at(input, at);
-        records::put_at(memory, records::index(to), byte);
+        let byte = bytes::byte_at(input, at);
+        bytes::put(memory, records::index(to), byte);
         to = std::num::wrapping_add_u16(to, 1);
         at += 1;
     }

@@ -9,7 +9,8 @@ use mathlib.Core.List.{List}
 use Rattle.rules.specs.Parts.{withSlot}
 use Rattle.rules.specs.Validity.{total, most64}
 use Rattle.rules.specs.Facts.{InRange}
-use Rattle.rules.specs.Clock.{cpuClock, newSlot, afterBytes, kindAt, slotEnd}
+use Rattle.rules.specs.Slots.{newSlot}
+use Rattle.rules.specs.Clock.{cpuClock, afterBytes, kindAt, slotEnd}
 use Rattle.rules.specs.Buffers.{flat}
 use Rattle.rules.specs.World.{System, system, buffersAfter, clocked}
 use Rattle.rules.specs.Spans.{kindOf, IsSpan}

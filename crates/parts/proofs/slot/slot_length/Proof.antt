@@ -1,7 +1,7 @@
 -- Each branch is its choice; 32 times a byte fits 16 bits.
 -- Assumes nothing.
 use Rattle.rules.specs.Choice.{pick}
-use Rattle.rules.specs.Clock.{slotLength}
+use Rattle.rules.specs.Slots.{slotLength}
 use borrow.Author.Tests.{eq-eqb, ne-eqb}
 use borrow.Author.Needs.{needs}
 use Rattle.parts.proofs.slot.slot_length.Statement.{statement}

@@ -23,8 +23,8 @@ byte-at-requires c κs = search needs
 index-requires : tie.Need-index-requires Inv-loop μ-loop
 index-requires c κs = search needs
 
-put-at-requires : tie.Need-put-at-requires Inv-loop μ-loop
-put-at-requires c κs = search needs
+put-requires : tie.Need-put-requires Inv-loop μ-loop
+put-requires c κs = search needs
 
 wrapping-add-u16-requires : tie.Need-wrapping-add-u16-requires Inv-loop μ-loop
 wrapping-add-u16-requires c κs = search needs
@@ -39,7 +39,7 @@ loop-again : tie.Need-loop-again Inv-loop μ-loop
 loop-again c =
     let put = c .before .before .before in
     let read = put .before .before .before in
-    poking-more (read .before .before .loop .inv) (read .before .loop-test .taken) (read .byte-at .ensures) (put .before .index .ensures .0) (put .put-at .ensures) (c .wrapping-add-u16 .ensures)
+    poking-more (read .before .before .loop .inv) (read .before .loop-test .taken) (read .byte-at .ensures) (put .before .index .ensures .0) (put .put .ensures) (c .wrapping-add-u16 .ensures)
 
 same-length : tie.Need-same-length Inv-loop μ-loop
 same-length c = c .before .loop .inv .size
@@ -56,7 +56,7 @@ poke-spec =
     loop-holds
     byte-at-requires
     index-requires
-    put-at-requires
+    put-requires
     wrapping-add-u16-requires
     add-at
     loop-less

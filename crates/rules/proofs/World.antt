@@ -11,7 +11,7 @@ use Rattle.rules.specs.Clock.{Kind, busClock, heldClock, cpuClock, count
 use Rattle.rules.specs.Buffers.{Store}
 use Rattle.rules.specs.World.{System, stepCounted, clocked}
 use Rattle.rules.specs.declared.Clocks.{Clocks}
-use Rattle.rules.proofs.Clocking.{clock-kept}
+use Rattle.rules.proofs.Clock.{clock-kept}
 
 -- n clocks of a kind add n to the sum of the counts
 pub total-counted : (k : Kind) (n : ℕ) (x : Clocks) → total (countedBy k n x) ≡ total x + n

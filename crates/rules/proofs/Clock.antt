@@ -8,47 +8,20 @@ use mathlib.Core.Bool.{Bool, true, false}
 use mathlib.Core.List.{[], _∷_}
 use lib.Dec.{ltb, eqb}
 use native.Mathlib.Nat.{le-of-eq, le-of-lt}
-use borrow.Author.Tests.{ltb-true, leb-true, leb-false, eqb-true, eqb-false, le-leb, lt-leb}
+use borrow.Author.Tests.{ltb-true, eqb-true, eqb-false}
 use Rattle.rules.specs.Choice.{every}
-use Rattle.rules.specs.Parts.{withCounter, withSlot}
+use Rattle.rules.specs.Parts.{withSlot}
 use Rattle.rules.specs.Blocks.{blockCount, finished}
-use Rattle.rules.specs.Slots.{noSlot, unmoved}
+use Rattle.rules.specs.Slots.{noSlot, unmoved, slotLength, newSlot}
 use Rattle.rules.specs.Facts.{Kept, SlotLength, busTime, prescaled, ValidSlot, resting, running}
-use Rattle.rules.specs.Clock.{Clock, slotLength, newSlot, moved, withElapsed, movesAt, movedAt, Ending, slotEnd, clockEnd, slotClock, firstClock, clockOf}
-use Rattle.rules.specs.Exactly.{BlockExact}
-use Rattle.rules.specs.declared.Block.{Block}
+use Rattle.rules.specs.Clock.{Clock, moved, withElapsed, movesAt, movedAt, Ending, slotEnd, clockEnd, slotClock, firstClock, clockOf}
 use Rattle.rules.specs.declared.Slot.{Slot}
 use Rattle.rules.specs.declared.Core.{Core}
-use Rattle.rules.proofs.Choice.{clash, pick-true, pick-false, pick-cases, pick-both, all-true}
+use Rattle.rules.proofs.Choice.{clash, pick-cases, all-true}
+use Rattle.rules.proofs.Blocks.{unfinished-room, reloaded-unfinished}
 use Rattle.rules.proofs.Slots.{unmoved-cases, unmoved-below}
 use Rattle.rules.proofs.Ports.{good-advanced, good-loaded}
 use Rattle.rules.proofs.Steady.{SteadyCore, steady-a, steady-b, steady-block, kept-from, kept-steady, kept-slot, kept-progress}
-
--- ---- the block
-
--- a block has at most 65,536 bytes
-pub count-most : (b : Block) → b .length < 65536 → blockCount b ≤ 65536
-unfolding blockCount
-count-most b h = pick-both (λ n. n ≤ 65536) _ _ _ (omega arith) (omega arith)
-
-pub block-exact : (b : Block) → BlockExact b
-unfolding blockCount finished
-block-exact b =
-    record {
-      zxn = λ e. pick-false _ _ _ e;
-      zilog = λ e. pick-true _ _ _ e;
-      end = record { to = λ e. leb-true _ _ e; from = λ h. le-leb _ _ h };
-    }
-
--- an unfinished block has room for one more byte
-pub unfinished-room : (b : Block) → b .length < 65536 → finished b ≡ false → b .counter + 1 ≤ 65536
-unfolding finished
-unfinished-room b h e = omega (arith, leb-false (blockCount b) (b .counter) e, count-most b h)
-
--- a block of some bytes is unfinished once the counter is 0
-reloaded-unfinished : (b : Block) → 0 < blockCount b → finished (withCounter 0 b) ≡ false
-unfolding finished blockCount
-reloaded-unfinished b h = lt-leb _ _ h
 
 -- ---- a slot's n-th clock
 
