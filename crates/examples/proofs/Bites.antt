@@ -14,10 +14,10 @@ use package.borrow.Author.Tests.{eqb-true, ne-eqb}
 use Rattle.rules.specs.Choice.{pick, every, any}
 use Rattle.rules.specs.Validity.{valid, total}
 use Rattle.rules.specs.World.{System, Move}
-use Rattle.rules.specs.Calls.{Answer, read}
+use Rattle.rules.specs.Calls.{read}
 use Rattle.rules.proofs.Choice.{clash, either, pick-true, pick-false, all-true, every-stop, every-stop-later}
 use Rattle.examples.specs.Rows.{Action, fill, latch, send, sendRefused, expect, expectRefused, clocks, borrow, counts, memory, latches, pointers, counter, status, enabled, count, suppose, supposeCounts, clocksRefused, figure, changed, nextMove, Row, Seen, same, answered, sendAll, expectAll, movesSo, perform, played, Failure, rowFailures, start, failures}
-use Rattle.examples.specs.Bites.{Other, OneOther, here, later, OneChanged, sendAccepted, clocksAccepted, sendRefusedNumber, expectByte, expectRefusedNumber, borrowNumber, countsBus, countsHeld, countsCpu, memoryByte, latchesByte, pointersA, pointersB, counterHolds, statusByte, enabledOr, countIs, clocksRefusedNumber, figureIs, changedValid, moveFrom, moveFromIo, moveTo, moveToIo, moveByte, Bites, TableBites, anyOf, expects, someExpects, allExpect, EveryRowExpects, Changeable, ExpectsChangeable}
+use Rattle.examples.specs.Bites.{Other, OneOther, here, later, sendAccepted, clocksAccepted, sendRefusedNumber, expectByte, expectRefusedNumber, borrowNumber, countsBus, countsHeld, countsCpu, memoryByte, latchesByte, pointersA, pointersB, counterHolds, statusByte, enabledOr, countIs, clocksRefusedNumber, figureIs, changedValid, moveFrom, moveFromIo, moveTo, moveToIo, moveByte, Bites, TableBites, anyOf, expects, someExpects, allExpect, EveryRowExpects, ExpectsChangeable}
 
 -- ---- one value
 

@@ -8,7 +8,7 @@ use mathlib.Core.List.{List, [], _∷_, _++_}
 use Rattle.rules.specs.Choice.{every, any}
 use Rattle.rules.specs.World.{System}
 use Rattle.rules.specs.declared.Core.{Core}
-use Rattle.examples.specs.Rows.{Action, fill, latch, send, sendRefused, expect, expectRefused, clocks, borrow, counts, memory, latches, pointers, counter, status, enabled, count, suppose, supposeCounts, clocksRefused, figure, changed, nextMove, Row, row, perform, start, failures}
+use Rattle.examples.specs.Rows.{Action, fill, latch, send, sendRefused, expect, expectRefused, clocks, borrow, counts, memory, latches, pointers, counter, status, enabled, count, suppose, supposeCounts, clocksRefused, figure, changed, nextMove, Row, perform, start, failures}
 use Rattle.examples.specs.WorkedExamples.{table}
 
 -- the value is another

@@ -1,7 +1,7 @@
 // The records of a session's bytes.
 ghost use mathlib.Core.Path.{_≡_};
 ghost use Prim.Native.Nat.{_+_, _*_, _≤_, _<_};
-ghost use lib.ListN.{length, getD, set};
+ghost use lib.ListN.{length};
 ghost use Rattle.records.specs.Records.{short, behind, writeRecord, readRecord, grantRecord, memoryRecord, ofKind, recordAt, longLength};
 ghost use Rattle.records.specs.Records.{none as noRecord};
 ghost use Rattle.records.specs.BigEndian.{word, quad};

@@ -23,7 +23,7 @@ use Rattle.rules.specs.History.{Event, clockNoted, counterZeroed, Past, 
 use Rattle.rules.specs.Accounts.{ofKind, clocksNoted, bytesOf, bytesNoted, heldBefore, zeroedNoted, clocksAsked, clocksAccepted, numbersOf, Demand3}
 use Rattle.rules.specs.declared.Clocks.{Clocks}
 use Rattle.rules.proofs.Choice.{pick-cases, pick-both, pick-true, pick-false, pick-ap}
-use Rattle.rules.proofs.World.{clocked-total}
+use Rattle.rules.proofs.World.{clocked-zero, clocked-suc, clocked-total}
 use Rattle.rules.proofs.Calls.{granted, grant-refuses}
 use Rattle.rules.proofs.Counter.{write-zero, write-same, read-same, clock-balanced}
 use Rattle.rules.proofs.Splitting.{grant-splits}
@@ -121,9 +121,10 @@ module _ {M : Type 0} (σ : Store M) where
       }
 
   clocks-agree : (n : ℕ) (s : System M) (p : Past M) → Clocked s p → Clocked (clocked σ n s) (clocksPassed σ n p)
-  unfolding clocked clocksPassed
-  clocks-agree zero s p c = c
-  clocks-agree (suc n) s p c = clock-agrees (clocked σ n s) (clocksPassed σ n p) (clocks-agree n s p c)
+  unfolding clocksPassed
+  clocks-agree zero s p c = rw (clocked-zero σ s) c
+  clocks-agree (suc n) s p c =
+      rw (clocked-suc σ n s) (clock-agrees (clocked σ n s) (clocksPassed σ n p) (clocks-agree n s p c))
 
   clocks-sum : (n : ℕ) (p : Past M) → clocksPassed σ n p .sum ≡ p .sum
   unfolding clocksPassed

@@ -57,11 +57,6 @@ access c sum port e =
     let j = missed _ _ (tells 2 _) (i .1) in
     record { state = not-false _ (h .0); known = i .0; free = j .0 }
 
-pub accessed : (c : Core) (sum port : ℕ) → Access c sum port → accessRefusal c sum port ≡ 0
-unfolding accessRefusal firstHit
-accessed c sum port a =
-    pick-false _ _ _ (ap not (a .state)) ∙ pick-false _ _ _ (a .known) ∙ pick-false _ _ _ (a .free)
-
 pub record Granted {M : Type 0} (σ : Store M) (c : Core) (sum : ℕ) (b : Buffers M) (n : ℕ) : Type 0 where
   pub state : valid c sum ≡ true
   pub memory : σ .refusal (b .memory) ≡ 0

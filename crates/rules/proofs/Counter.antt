@@ -20,7 +20,7 @@ use Rattle.rules.specs.History.{zeroing}
 use Rattle.rules.specs.Accounts.{heldBefore}
 use Rattle.rules.specs.Opened.{opened}
 use Rattle.rules.specs.declared.Core.{Core}
-use Rattle.rules.proofs.Choice.{clash, pick-cases, pick-both, below, _⨾_, under, table, pick-true, pick-false, either, any-first, any-more, any-cases, any-none}
+use Rattle.rules.proofs.Choice.{clash, pick-both, below, _⨾_, under, table, pick-true, pick-false, either, any-first, any-more, any-cases, any-none}
 
 -- the counter is as it was
 abbrev Same : Core → Core → Type 0

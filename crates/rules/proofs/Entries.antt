@@ -7,7 +7,6 @@ use lib.ListN.{set, length-set}
 use Rattle.rules.specs.Bytes.{AreBytes}
 use Rattle.rules.specs.Buffers.{Store}
 use Rattle.rules.specs.World.{System}
-use Rattle.rules.specs.Calls.{Answered}
 use Rattle.rules.specs.Entries.{Outside, poked, Entry, portWrite, portRead, clockGrant, otherGrant, outsideChange, bytesWritten, Run, enter, run, systemAtPowerOn, PokesKeepLength}
 use Rattle.rules.proofs.Calls.{ValidSystem, stays-valid}
 

@@ -2,21 +2,20 @@
 -- the same clocks one after the other, so all that comes later is the same.
 -- Assumes nothing.
 use Prim.Native.Nat.{ℕ, zero, suc, _+_}
-use native.Mathlib.Omega.{arith}
 use native.Mathlib.Nat.{add-zero, add-suc, add-assoc}
-use mathlib.Core.Path.{_≡_, refl, sym, _∙_, ap, subst}
+use mathlib.Core.Path.{_≡_, refl, sym, _∙_, ap}
 use mathlib.Core.List.{List, [], _∷_, _++_}
 use lib.ListN.{length}
 use borrow.Author.Tests.{eq-eqb}
 use Rattle.rules.specs.Buffers.{Store}
 use Rattle.rules.specs.World.{System}
-use Rattle.rules.specs.Calls.{Answered, Answer, grantNumber, grant}
+use Rattle.rules.specs.Calls.{Answer, grant}
 use Rattle.rules.specs.Entries.{Outside, Entry, clockGrant, Run, enter, run, systemAtPowerOn}
-use Rattle.rules.specs.History.{Past, History, notedUnless, clockPassed, clocksPassed, grantPassed, noteEntry, history, pastAtPowerOn}
+use Rattle.rules.specs.History.{Past, notedUnless, clockPassed, clocksPassed, grantPassed, noteEntry, history, pastAtPowerOn}
 use Rattle.rules.specs.Splitting.{sumOf, AcceptedInTurn, grants, acceptedAnswers, SplitsWithin}
 use Rattle.rules.proofs.Choice.{pick-true, pick-both}
 use Rattle.rules.proofs.Entries.{reached-valid, run-behind}
-use Rattle.rules.proofs.Splitting.{accepted-number, grant-splits}
+use Rattle.rules.proofs.Splitting.{grant-splits}
 use Rattle.rules.proofs.Accounts.{Agree, entry-step, start-agrees, ends}
 
 module _ {M C : Type 0} (σ : Store M) (ω : Outside M C) where

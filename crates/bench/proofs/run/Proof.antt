@@ -42,12 +42,12 @@ loop-less : tie.Need-loop-less Inv-loop μ-loop
 loop-less c = search needs
 
 loop-again : tie.Need-loop-again Inv-loop μ-loop
-loop-again c = let
-    turn = c .before .before .before .before .before .before .before .before .turn
-    in
-    let inv = c .before .before .before .before .before .before .before .before .before .before .before .before .before .before .before .before .loop .inv in
+loop-again c =
+    let turn = c .before .before .before .before .before .before .before .before .turn in
+    let test = c .before .before .before .before .before .before .before .before .before .before .before .before .before in
+    let inv = test .before .before .before .loop .inv in
     let k = turn .kept .1 .1 .1 in
-    (k .0 ∙ inv .0, k .1 .0 ∙ inv .1, running-more (inv .2) (c .before .before .before .before .before .before .before .before .before .before .before .before .before .before .before .loop-test .taken) (not-true _ (c .before .before .before .before .before .before .before .before .before .before .before .before .before .if1 .taken)) (turn .ensures))
+    (k .0 ∙ inv .0, k .1 .0 ∙ inv .1, running-more (inv .2) (test .before .before .loop-test .taken) (not-true _ (test .if1 .taken)) (turn .ensures))
 
 same-length : tie.Need-same-length Inv-loop μ-loop
 same-length c = search needs

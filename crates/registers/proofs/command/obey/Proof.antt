@@ -63,7 +63,14 @@ returns-8 : tie.Need-returns-8
 unfolding command firstOf pick
 returns-8 c =
     let p = c .before .before .before .before in
-    simp (ne-eqb _ _ (p .before .before .before .if1 .left), ne-eqb _ _ (p .before .before .if2 .left), ne-eqb _ _ (p .before .if3 .left), ne-eqb _ _ (p .if4 .left), ne-eqb _ _ (c .before .before .before .if5 .left), ne-eqb _ _ (c .before .before .if6 .left), ne-eqb _ _ (c .before .if7 .left), c .reading-command .ensures)
+    let not1 = ne-eqb _ _ (p .before .before .before .if1 .left) in
+    let not2 = ne-eqb _ _ (p .before .before .if2 .left) in
+    let not3 = ne-eqb _ _ (p .before .if3 .left) in
+    let not4 = ne-eqb _ _ (p .if4 .left) in
+    let not5 = ne-eqb _ _ (c .before .before .before .if5 .left) in
+    let not6 = ne-eqb _ _ (c .before .before .if6 .left) in
+    let not7 = ne-eqb _ _ (c .before .if7 .left) in
+    simp (not1, not2, not3, not4, not5, not6, not7, c .reading-command .ensures)
 
 pub obey-spec : {M : Type 1} → statement M
 obey-spec =

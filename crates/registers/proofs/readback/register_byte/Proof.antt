@@ -62,7 +62,13 @@ returns-7 : tie.Need-returns-7
 unfolding registerByte firstOf pick
 returns-7 c =
     let p = c .before .before .before .before in
-    simp (ne-eqb _ _ (p .before .before .before .before .if1 .left), ne-eqb _ _ (p .before .before .before .if2 .left), ne-eqb _ _ (p .before .before .if3 .left), ne-eqb _ _ (p .if4 .left), ne-eqb _ _ (c .before .before .before .if5 .left), ne-eqb _ _ (c .before .if6 .left), c .before .before .wide2 .ensures, c .high3 .ensures)
+    let not1 = ne-eqb _ _ (p .before .before .before .before .if1 .left) in
+    let not2 = ne-eqb _ _ (p .before .before .before .if2 .left) in
+    let not3 = ne-eqb _ _ (p .before .before .if3 .left) in
+    let not4 = ne-eqb _ _ (p .if4 .left) in
+    let not5 = ne-eqb _ _ (c .before .before .before .if5 .left) in
+    let not6 = ne-eqb _ _ (c .before .if6 .left) in
+    simp (not1, not2, not3, not4, not5, not6, c .before .before .wide2 .ensures, c .high3 .ensures)
 
 pub register-byte-spec : {M : Type 1} → statement M
 register-byte-spec =

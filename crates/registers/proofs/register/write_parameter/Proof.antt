@@ -78,7 +78,16 @@ unfolding parameter firstOf pick
 returns-10 c =
     let q = c .before .before .before in
     let p = q .before .before .before in
-    simp (ne-eqb _ _ (p .before .before .before .if1 .left), ne-eqb _ _ (p .before .before .if2 .left), ne-eqb _ _ (p .before .if3 .left), ne-eqb _ _ (p .if4 .left), ne-eqb _ _ (q .before .before .if5 .left), ne-eqb _ _ (q .before .if6 .left), ne-eqb _ _ (q .if7 .left), ne-eqb _ _ (c .before .before .if8 .left), ne-eqb _ _ (c .before .if9 .left), c .mask-written .ensures)
+    let not1 = ne-eqb _ _ (p .before .before .before .if1 .left) in
+    let not2 = ne-eqb _ _ (p .before .before .if2 .left) in
+    let not3 = ne-eqb _ _ (p .before .if3 .left) in
+    let not4 = ne-eqb _ _ (p .if4 .left) in
+    let not5 = ne-eqb _ _ (q .before .before .if5 .left) in
+    let not6 = ne-eqb _ _ (q .before .if6 .left) in
+    let not7 = ne-eqb _ _ (q .if7 .left) in
+    let not8 = ne-eqb _ _ (c .before .before .if8 .left) in
+    let not9 = ne-eqb _ _ (c .before .if9 .left) in
+    simp (not1, not2, not3, not4, not5, not6, not7, not8, not9, c .mask-written .ensures)
 
 pub write-parameter-spec : {M : Type 1} → statement M
 write-parameter-spec =
