@@ -131,6 +131,7 @@ pub const HELD: u8 = 1;
 pub const CPU: u8 = 2;
 
 // A span of clocks of one kind, on whose last clock a byte may move.
+#[repr(C)]
 pub struct Span {
     // BUS, HELD or CPU.
     pub kind: u8,
