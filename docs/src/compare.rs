@@ -12,32 +12,43 @@ mod generate;
 mod process;
 #[path = "program.rs"]
 mod program;
+#[path = "questions.rs"]
+mod questions;
 #[path = "reference.rs"]
 mod reference;
+#[path = "stops.rs"]
+mod stops;
 #[path = "stored.rs"]
 mod stored;
+#[path = "waits.rs"]
+mod waits;
 
 use generate::Rng;
 use program::Failure;
+use reference::session::{self, Watch};
 use std::process::{ExitCode, Output};
 use std::time::{SystemTime, UNIX_EPOCH};
+use waits::Waits;
 
 const HELP: &str = "\
 usage: compare BENCH SEED COUNT [FILE ...]
 Runs the program BENCH on sessions and compares what it writes with the lines
-of the second program. Prints the seed, and how many lines of each shape came.
+of the second program. Prints the seed, what writes in burst waits came to, and
+how many lines of each shape came.
 
   BENCH  the bench program: a session on standard input, lines on the output
   SEED   a number, or `date` for the days since 1970-01-01
   COUNT  how many random sessions to make from the seed, 1 or more
   FILE   a stored session in hex; blanks are ignored, # starts a comment
 
-Exit status: 0 all agree; 1 a difference, which is shown with the session
-shortened as far as it still differs, or, with a COUNT of 1000 or more, a shape
-of line that never came; 2 bad arguments, or BENCH or a FILE can't be used.
+Exit status: 0 all agree; 1 a difference, or the second program stops, which is
+shown with the session shortened as far as it still does so, or, with a COUNT of
+1000 or more, a shape of line or a case of a write in a wait that never came;
+2 bad arguments, or BENCH or a FILE can't be used.
 ";
 
-/// From this many sessions on every shape of line must have come.
+/// From this many sessions on every shape of line must have come, and every
+/// case of a write in a wait.
 const ENOUGH: u64 = 1_000;
 
 // ---- Arguments -----------------------------------------------------------
@@ -83,6 +94,19 @@ struct Bench<'a> {
 }
 
 impl Bench<'_> {
+    /// The second program's lines on a session, and what is wrong with the
+    /// program's answer to it, if anything is. A second program that stops is
+    /// wrong, too.
+    fn judge(&self, session: &[u8], watch: Watch) -> Result<(Vec<u8>, Option<String>), Failure> {
+        match stops::caught(|| session::run_watched(session, watch)) {
+            Ok(expected) => {
+                let difference = self.difference(session, &expected)?;
+                Ok((expected, difference))
+            }
+            Err(text) => Ok((Vec::new(), Some(format!("the second program stops: {text}\n")))),
+        }
+    }
+
     /// What is wrong with the program's answer to a session, if anything is.
     fn difference(&self, session: &[u8], expected: &[u8]) -> Result<Option<String>, Failure> {
         let pieces = match self.pieces {
@@ -178,9 +202,7 @@ impl Differing<'_> {
     /// Takes the parts instead of those kept, if they still differ.
     fn try_parts(&mut self, parts: Vec<Vec<u8>>) -> Result<bool, Failure> {
         self.tries -= 1;
-        let session = parts.concat();
-        let expected = reference::session::run(&session);
-        let difference = self.bench.difference(&session, &expected)?;
+        let (_, difference) = self.bench.judge(&parts.concat(), &mut |_, _, _| {})?;
         let differs = difference.is_some();
         if let Some(difference) = difference {
             self.parts = parts;
@@ -296,7 +318,7 @@ fn report(name: &str, session: &[u8], bench: Bench, difference: String) -> Resul
     let manner = if bench.pieces.is_some() { "in pieces" } else { "at once" };
     let before = format!("{name}, {records} records, written {manner}, differs:\n{difference}");
     let mut differing = Differing { bench, parts: whole, difference, tries: 2_000 };
-    differing.shorten()?;
+    stops::silenced(|| differing.shorten())?;
     let Differing { parts, difference, .. } = differing;
     let (listing, difference) = (listing(&parts), difference.trim_end());
     Ok(format!("{before}shortened:\n\n{listing}\n\nit differs:\n{difference}"))
@@ -333,17 +355,16 @@ impl Tally {
 }
 
 /// Compares one session; gives the lines on which both agree.
-fn compare(name: &str, session: &[u8], bench: Bench) -> Result<Vec<u8>, Failure> {
-    let expected = reference::session::run(session);
-    match bench.difference(session, &expected)? {
-        Some(difference) => Err((1, report(name, session, bench, difference)?)),
-        None => Ok(expected),
+fn compare(name: &str, session: &[u8], bench: Bench, watch: Watch) -> Result<Vec<u8>, Failure> {
+    match bench.judge(session, watch)? {
+        (_, Some(difference)) => Err((1, report(name, session, bench, difference)?)),
+        (expected, None) => Ok(expected),
     }
 }
 
 /// The sessions of the seed. Numbered from 1, so that COUNT reaches a session
 /// when it is its number.
-fn compare_random(arguments: &Arguments) -> Result<Tally, Failure> {
+fn compare_random(arguments: &Arguments, waits: &mut Waits) -> Result<Tally, Failure> {
     let mut tally = Tally::default();
     for number in 1..=arguments.count {
         let mut rng = Rng::numbered(arguments.seed, number);
@@ -351,7 +372,8 @@ fn compare_random(arguments: &Arguments) -> Result<Tally, Failure> {
         let pieces = if rng.chance(1, 4) { Some(rng.next()) } else { None };
         let bench = Bench { program: &arguments.bench, pieces };
         let name = format!("session {number} of seed {}", arguments.seed);
-        tally.add(&compare(&name, &session, bench)?);
+        let mut watch = |before: &_, call, after: &_| waits.count(before, call, after);
+        tally.add(&compare(&name, &session, bench, &mut watch)?);
     }
     Ok(tally)
 }
@@ -359,11 +381,18 @@ fn compare_random(arguments: &Arguments) -> Result<Tally, Failure> {
 fn compare_all(arguments: &Arguments) -> Result<String, Failure> {
     for file in &arguments.files {
         let session = stored::session(file).map_err(|text| (2, text))?;
-        compare(file, &session, Bench { program: &arguments.bench, pieces: None })?;
+        let bench = Bench { program: &arguments.bench, pieces: None };
+        compare(file, &session, bench, &mut |_, _, _| {})?;
     }
-    let tally = compare_random(arguments)?;
-    if let Some((shape, _)) = tally.shapes().find(|&(_, times)| times == 0) {
-        if arguments.count >= ENOUGH {
+    // Without the stored ones: what is made has to come to everything alone.
+    let mut waits = Waits::new();
+    let tally = compare_random(arguments, &mut waits)?;
+    println!("{}", waits.summary("waits"));
+    if arguments.count >= ENOUGH {
+        if let Some(missing) = waits.missing() {
+            return Err((1, format!("no session came to this in a burst wait: {missing}")));
+        }
+        if let Some((shape, _)) = tally.shapes().find(|&(_, times)| times == 0) {
             return Err((1, format!("no session gave a line of the shape {shape}")));
         }
     }

@@ -386,6 +386,19 @@ impl Plan {
         plan
     }
 
+    /// A block of few bytes in slots with burst waits, all of whose figures
+    /// are known.
+    fn with_known_waits(rng: &mut Rng) -> Plan {
+        let about_a_byte = rng.between(254, 258) as u16;
+        let few = rng.between(1, 6) as u16;
+        let mut plan = Plan::with_known_slots(rng);
+        plan.mode = BURST;
+        plan.prescaler = Some(rng.pick(&[1, 1, 1, 1, 2, 3, 55]));
+        plan.length = if plan.slot() == 32 { rng.pick(&[few, few, few, about_a_byte]) } else { few };
+        plan.auto_restart = rng.chance(1, 2);
+        plan
+    }
+
     /// The most bytes there can be, or one less, in slots of 4 clocks; a few
     /// of 32.
     fn longest(rng: &mut Rng) -> Plan {
@@ -759,6 +772,184 @@ impl Progress {
     }
 }
 
+/// Where a transfer stands whose block's end is moved in its waits, as far as
+/// its plan is right.
+struct Course {
+    counter: u32,
+    /// The clocks of the running slot that have passed; 0 between two slots.
+    elapsed: u32,
+    enabled: bool,
+}
+
+impl Course {
+    fn grant(&mut self, session: &mut Session, plan: &Plan, clocks: u32) {
+        session.grant(clocks);
+        let mut left = clocks;
+        while self.enabled && left > 0 {
+            let used = left.min(plan.slot() - self.elapsed);
+            let (before, after) = (self.elapsed, self.elapsed + used);
+            self.counter += u32::from(before < plan.bus_time() && after >= plan.bus_time());
+            self.elapsed = after;
+            left -= used;
+            if after == plan.slot() {
+                self.end_slot(plan);
+            }
+        }
+    }
+
+    fn end_slot(&mut self, plan: &Plan) {
+        self.elapsed = 0;
+        if self.counter >= plan.count() {
+            self.enabled = plan.auto_restart && plan.count() > 0;
+            self.counter = if self.enabled { 0 } else { self.counter };
+        }
+    }
+
+    fn enable(&mut self, plan: &Plan) {
+        self.enabled |= self.counter < plan.count();
+    }
+
+    fn disable(&mut self) {
+        (self.enabled, self.elapsed) = (false, 0);
+    }
+
+    /// Into the wait of this slot or of one soon after it.
+    fn go_into_a_wait(&mut self, rng: &mut Rng, session: &mut Session, plan: &Plan) {
+        let (bus, slot) = (plan.bus_time(), plan.slot());
+        let into = bus + rng.below(slot - bus);
+        let slots = rng.below(plan.count().saturating_sub(self.counter).clamp(1, 4));
+        self.grant(session, plan, slots * slot + into.saturating_sub(self.elapsed));
+    }
+
+    /// To the end of the running slot, or about there, cut anywhere.
+    fn go_to_the_end(&mut self, rng: &mut Rng, session: &mut Session, plan: &Plan) {
+        let (bus, slot) = (plan.bus_time(), plan.slot());
+        let rest = slot - self.elapsed;
+        let over = part_of_a_slot(rng, bus, slot);
+        let total = rng.pick(&[rest, rest, rest - 1, rest + 1, rest + over, rest + slot + over]);
+        let first = rng.pick(&[0, rest - 1, rest, total]).min(total);
+        let first = if rng.chance(1, 3) { rng.below(total + 1) } else { first };
+        self.grant(session, plan, first);
+        if rng.chance(1, 2) {
+            session.read(dma_port(rng, plan.zilog));
+        }
+        self.grant(session, plan, total - first);
+    }
+}
+
+/// Bytes on the plan's port, and on no other.
+fn write_plain(rng: &mut Rng, session: &mut Session, plan: &Plan, bytes: &[u8]) {
+    for &byte in bytes {
+        session.write(dma_port(rng, plan.zilog), byte);
+    }
+}
+
+/// A length that makes a block of so many bytes, or of as few as there can be.
+fn write_count(rng: &mut Rng, session: &mut Session, plan: &mut Plan, count: u32) {
+    let before = plan.length.to_be_bytes();
+    plan.length = count.saturating_sub(u32::from(plan.zilog)).min(65_535) as u16;
+    let after = plan.length.to_be_bytes();
+    // One byte of it is enough where the other stays.
+    let wanted = match (before[0] == after[0], before[1] == after[1]) {
+        (true, _) if rng.chance(1, 2) => 0b0100,
+        (_, true) if rng.chance(1, 2) => 0b1000,
+        _ => WR0_LENGTH,
+    };
+    let bytes = plan.wr0(rng, wanted);
+    // The register's byte by the other port moves the end back and forth.
+    let other = rng.chance(1, 6);
+    session.write(dma_port(rng, plan.zilog != other), bytes[0]);
+    write_plain(rng, session, plan, &bytes[1..]);
+}
+
+/// The other port, with a byte that does nothing else.
+fn write_on_other_port(rng: &mut Rng, session: &mut Session, plan: &mut Plan) {
+    plan.zilog = !plan.zilog;
+    let byte = rng.pick(&[NOTHING, 0xC2, 0x8E]);
+    write_plain(rng, session, plan, &[byte]);
+}
+
+/// Load or Continue.
+fn zero_counter(rng: &mut Rng, session: &mut Session, plan: &Plan, course: &mut Course) {
+    let byte = rng.pick(&[LOAD, CONTINUE]);
+    write_plain(rng, session, plan, &[byte]);
+    course.counter = 0;
+}
+
+/// In a wait: moves the block's end to the counter, below it or past it, or
+/// the counter to 0, or changes what is to follow.
+fn move_block_end(rng: &mut Rng, session: &mut Session, plan: &mut Plan, course: &mut Course) {
+    let counter = course.counter;
+    match rng.below(18) {
+        0..=2 => write_count(rng, session, plan, counter),
+        3 | 4 => {
+            let count = rng.below(counter.max(1));
+            write_count(rng, session, plan, count);
+        }
+        5 => {
+            plan.zilog = false;
+            write_count(rng, session, plan, 0);
+            if rng.chance(1, 2) {
+                zero_counter(rng, session, plan, course);
+            }
+        }
+        6 | 7 => {
+            let count = counter + rng.between(1, 3);
+            write_count(rng, session, plan, count);
+        }
+        8 | 9 => write_on_other_port(rng, session, plan),
+        10 | 11 => {
+            // One more byte in Zilog mode than in zxn mode, where it ends here.
+            plan.zilog = rng.chance(2, 3);
+            let count = counter + u32::from(plan.zilog);
+            write_count(rng, session, plan, count);
+            write_on_other_port(rng, session, plan);
+        }
+        12 | 13 => zero_counter(rng, session, plan, course),
+        14 => {
+            // A block of one byte, not moved yet, which the port takes away.
+            plan.zilog = true;
+            zero_counter(rng, session, plan, course);
+            write_count(rng, session, plan, 1);
+            write_on_other_port(rng, session, plan);
+        }
+        15 | 16 => {
+            let bytes = plan.switch_auto_restart(rng);
+            write_plain(rng, session, plan, &bytes);
+        }
+        _ => {
+            let byte = disable(rng);
+            write_plain(rng, session, plan, &[byte]);
+            course.disable();
+        }
+    }
+}
+
+/// An Enable behind a block's end: at once, or after something that gives the
+/// block bytes again. If the device stays disabled, it gets another block.
+fn enable_behind(rng: &mut Rng, session: &mut Session, plan: &mut Plan, course: &mut Course) {
+    let byte = enable(rng);
+    write_plain(rng, session, plan, &[byte]);
+    course.enable(plan);
+    let clocks = rng.pick(&[0, 1, plan.bus_time(), plan.slot()]);
+    course.grant(session, plan, clocks);
+    if course.enabled {
+        return;
+    }
+    read_all(rng, session, plan);
+    if plan.count() == 0 || rng.chance(1, 3) {
+        let count = rng.between(1, 5);
+        write_count(rng, session, plan, count);
+    } else if rng.chance(1, 4) {
+        write_on_other_port(rng, session, plan);
+    }
+    if rng.chance(3, 4) {
+        zero_counter(rng, session, plan, course);
+    }
+    write_plain(rng, session, plan, &[ENABLE]);
+    course.enable(plan);
+}
+
 /// All seven registers, if the bus is free.
 fn read_all(rng: &mut Rng, session: &mut Session, plan: &mut Plan) {
     write_all(rng, session, plan, &[READ_MASK, 0x7F]);
@@ -908,6 +1099,28 @@ fn burst_waits(rng: &mut Rng) -> Session {
     session
 }
 
+/// Transfers in burst whose blocks' ends are moved in the waits, so that the
+/// slots end, or go on, otherwise than they began.
+fn moved_block_ends(rng: &mut Rng) -> Session {
+    let mut session = Session::new(clocks_of_a_session(rng));
+    let mut plan = Plan::with_known_waits(rng);
+    fill_memory(rng, &mut session, &plan);
+    program(rng, &mut session, &mut plan, false);
+    let mut course = Course { counter: 0, elapsed: 0, enabled: true };
+    for _ in 0..rng.between(2, 6) {
+        course.go_into_a_wait(rng, &mut session, &plan);
+        for _ in 0..rng.between(1, 3) {
+            move_block_end(rng, &mut session, &mut plan, &mut course);
+        }
+        course.go_to_the_end(rng, &mut session, &plan);
+        if !course.enabled {
+            enable_behind(rng, &mut session, &mut plan, &mut course);
+        }
+    }
+    read_all(rng, &mut session, &mut plan);
+    session
+}
+
 /// Long blocks, or many short ones, in a few grants each.
 fn long_runs(rng: &mut Rng) -> Session {
     let mut session = Session::new(1_000_000);
@@ -994,7 +1207,8 @@ fn faultless(rng: &mut Rng) -> Session {
         15..=24 => counter_runs_on(rng),
         25..=124 => long_runs(rng),
         125..=249 => noise(rng),
-        250..=564 => burst_waits(rng),
+        250..=504 => burst_waits(rng),
+        505..=564 => moved_block_ends(rng),
         _ => transfers(rng),
     }
 }

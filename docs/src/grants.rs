@@ -5,6 +5,7 @@
 
 #![forbid(unsafe_code)]
 
+use crate::questions::{self, Answers};
 use crate::reference::model::{self, Device, Port, SIZE};
 
 // ---- One grant -----------------------------------------------------------
@@ -110,9 +111,7 @@ fn place(device: &Device) -> usize {
 
 // ---- Questions -----------------------------------------------------------
 
-/// What is asked of a grant, the answers there are, and the number of the one
-/// that it gives, if it gives one.
-type Question = (&'static str, &'static [&'static str], fn(&Grant) -> Option<usize>);
+type Question = questions::Question<Grant>;
 
 const PLACES: &[&str] = &["bus time", "held wait", "burst wait", "between slots"];
 const PRESCALERS: &[&str] =
@@ -253,7 +252,7 @@ fn million_clocks(grant: &Grant) -> Option<usize> {
 
 /// How often each answer came.
 pub struct Grants {
-    counts: Vec<(&'static Question, Vec<u64>)>,
+    answers: Answers<Grant>,
     most_bytes: u64,
     most_restarts: u64,
 }
@@ -269,42 +268,25 @@ impl Grants {
     }
 
     fn asked(questions: impl Iterator<Item = &'static Question>) -> Grants {
-        let counts = questions.map(|question| (question, vec![0; question.1.len()])).collect();
-        Grants { counts, most_bytes: 0, most_restarts: 0 }
+        Grants { answers: Answers::to(questions), most_bytes: 0, most_restarts: 0 }
     }
 
     pub fn count(&mut self, grant: &Grant) {
-        for ((_, _, answer), counts) in &mut self.counts {
-            if let Some(number) = answer(grant) {
-                counts[number] += 1;
-            }
-        }
+        self.answers.count(grant);
         self.most_bytes = self.most_bytes.max(grant.moved);
         self.most_restarts = self.most_restarts.max(grant.restarts);
     }
 
     /// The counts as lines.
     pub fn summary(&self, of: &str) -> String {
-        let mut lines = String::new();
-        for ((about, answers, _), counts) in &self.counts {
-            let answers = answers.iter().zip(counts);
-            let counted: Vec<String> = answers.map(|(a, n)| format!("{} x {}", a, n)).collect();
-            lines.push_str(&format!(
-                "states: grants of {}: {}: {}\n",
-                of,
-                about,
-                counted.join("; ")
-            ));
-        }
+        let words = format!("states: grants of {}", of);
         let (bytes, restarts) = (self.most_bytes, self.most_restarts);
-        format!("{}states: grants of {}: at most {} bytes, {} restarts", lines, of, bytes, restarts)
+        let most = format!("{}: at most {} bytes, {} restarts", words, bytes, restarts);
+        self.answers.lines(&words) + &most
     }
 
     /// The first answer that never came, with its question.
     pub fn missing(&self) -> Option<String> {
-        self.counts.iter().find_map(|((about, answers, _), counts)| {
-            let never = counts.iter().position(|&count| count == 0)?;
-            Some(format!("{}: {}", about, answers[never]))
-        })
+        self.answers.missing()
     }
 }

@@ -487,22 +487,30 @@ pub mod model {
         0
     }
 
-    /// 01: One clock, of a sound device whose books have room for it.
-    fn one_clock(d: &mut Device, memory: &mut [u8], latches: &mut [u8]) {
+    /// 01: One clock, of a sound device whose books have room for it. A host
+    /// calls `grant`, which refuses any other; this is public so that its
+    /// failure can be tried on one.
+    pub fn one_clock(d: &mut Device, memory: &mut [u8], latches: &mut [u8]) {
         // Not enabled: a CPU clock.
         if !d.enabled {
             d.clocks.cpu += 1;
             return;
         }
-        // A slot's first clock looks at the block once more ...
         if d.slot.elapsed == 0 {
-            if block_done(d) {
-                d.e = false;
-                d.enabled = false;
-                d.clocks.cpu += 1;
-                return;
-            }
-            // ... and fixes the bus time, the length, and burst or continuous.
+            // No sound state comes here with its block finished. Enable and a
+            // slot's last clock have looked, and until the slot's first clock
+            // the bus is held, so that no write comes between. It is a failure
+            // and no rule: a slip in one of those would move a byte too many,
+            // and here it is seen.
+            assert!(
+                !block_done(d),
+                "a slot begins with the block finished: counter {}, block count {}; \
+                 no sound state comes here",
+                d.counter,
+                block_count(d)
+            );
+            // A slot's first clock fixes the bus time, the length, and burst
+            // or continuous.
             d.slot.bus = u16::from(d.a.cycle) + u16::from(d.b.cycle);
             d.slot.length = match d.prescaler {
                 0 => d.slot.bus,
@@ -572,7 +580,7 @@ pub mod model {
 
 /// The bench program's session: records in, lines out.
 pub mod session {
-    use super::model;
+    use super::model::{self, Device};
 
     // The kinds of a record.
     const WRITE: u8 = 1;
@@ -580,10 +588,26 @@ pub mod session {
     const GRANT: u8 = 3;
     const MEMORY: u8 = 4;
 
+    /// A call of a session that was accepted.
+    #[derive(Clone, Copy)]
+    pub enum Call {
+        Write { port: u16, byte: u8 },
+        Read,
+        Grant { clocks: u32 },
+    }
+
+    /// Is shown an accepted call, with the device before it and after it.
+    pub type Watch<'a> = &'a mut dyn FnMut(&Device, Call, &Device);
+
     /// The lines that a whole session writes.
     pub fn run(session: &[u8]) -> Vec<u8> {
+        run_watched(session, &mut |_, _, _| {})
+    }
+
+    /// As `run`; every accepted call is shown.
+    pub fn run_watched(session: &[u8], watch: Watch) -> Vec<u8> {
         let mut lines = String::new();
-        match records(session, &mut lines) {
+        match records(session, &mut lines, watch) {
             Ok(c) => lines.push_str(&format!("B {} {} {}\n", c.bus, c.held, c.cpu)),
             Err(fault) => lines.push_str(&format!("S {}\n", fault)),
         }
@@ -592,7 +616,11 @@ pub mod session {
 
     /// Runs the records to the end or to the first fault. Gives the books, or
     /// the fault's number.
-    fn records(session: &[u8], lines: &mut String) -> Result<model::Clocks, u8> {
+    fn records(
+        session: &[u8],
+        lines: &mut String,
+        watch: Watch,
+    ) -> Result<model::Clocks, u8> {
         let mut device = model::power_on();
         let mut memory = vec![0_u8; model::SIZE];
         let mut latches = vec![0_u8; model::SIZE];
@@ -614,14 +642,20 @@ pub mod session {
             }
             let (record, behind) = rest.split_at(length);
             rest = behind;
+            let before = device;
             match *record {
                 [WRITE, high, low, byte] => {
-                    let number = model::write(&mut device, word(high, low), byte);
+                    let port = word(high, low);
+                    let number = model::write(&mut device, port, byte);
+                    if number == 0 {
+                        watch(&before, Call::Write { port, byte }, &device);
+                    }
                     lines.push_str(&format!("W {}\n", number));
                 }
                 [READ, high, low] => {
                     let (number, byte) = model::read(&mut device, word(high, low));
                     if number == 0 {
+                        watch(&before, Call::Read, &device);
                         lines.push_str(&format!("R 0 {:02X}\n", byte));
                     } else {
                         lines.push_str(&format!("R {}\n", number));
@@ -630,6 +664,9 @@ pub mod session {
                 [GRANT, b3, b2, b1, b0] => {
                     let clocks = u32::from_be_bytes([b3, b2, b1, b0]);
                     let number = model::grant(&mut device, &mut memory, &mut latches, clocks);
+                    if number == 0 {
+                        watch(&before, Call::Grant { clocks }, &device);
+                    }
                     lines.push_str(&format!("G {}\n", number));
                 }
                 [MEMORY, high, low, ref bytes @ ..] if (1..=255).contains(&bytes.len()) => {
@@ -658,7 +695,8 @@ The second program: a model of the zxnDMA that takes every clock singly. Reads a
 session of the bench program, in binary, from standard input and writes its lines
 to standard output. It needs nothing; docs/src/session-bytes makes such sessions.
 Exit status: 0 written, faults of the session too; 1 it can't read or write; 2 bad
-arguments.
+arguments; 101, and no lines, a slot begins with the block finished, which no
+session can bring about as long as this program keeps its rules.
 ";
 
 /// Answers `--help`; without arguments it runs a session.

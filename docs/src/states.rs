@@ -4,7 +4,8 @@
 //! sessions. Every answer is compared whole: number, byte, each field of the
 //! device, and after a grant both buffers, in a session after every record.
 //! The sessions of a seed are those that `compare.rs` makes of it. What the
-//! grants came to is counted.
+//! grants and the writes in burst waits came to is counted. It also sees that
+//! the second program stops where a slot would begin with its block finished.
 //!
 //! Built by `rustc --edition 2021 -O -L native=target/staticlib states.rs`,
 //! from this folder or with its path; `states --help` says how it is run.
@@ -17,17 +18,25 @@ mod generate;
 mod grants;
 #[path = "program.rs"]
 mod program;
+#[path = "questions.rs"]
+mod questions;
 #[path = "reference.rs"]
 mod reference;
+#[path = "stops.rs"]
+mod stops;
 #[path = "stored.rs"]
 mod stored;
+#[path = "waits.rs"]
+mod waits;
 #[path = "../../rust/zxndma/src/lib.rs"]
 mod zxndma;
 
 use generate::Rng;
 use grants::{Grant, Grants};
 use reference::model::{self, SIZE};
+use reference::session;
 use std::process::ExitCode;
+use waits::Waits;
 use zxndma::{Block, Clocks, Control, Core, Device, Pending, Port, Readback, Slot, Status};
 
 /// For each seed, if nothing else is asked for.
@@ -38,11 +47,14 @@ const HELP: &str = "\
 usage: states [--calls N] [--sessions N] [--seed N]... [FILE.hex]...
 Compares the linked library with the second program, for each seed (1) by N calls
 on made devices (1000000) and N made sessions (5000), and on the stored sessions.
-Prints how often each number was answered, and what the grants came to.
+Prints how often each number was answered, and what the grants and the writes in
+burst waits came to. Sees, too, that the calls refuse a device whose slot would
+begin with the block finished, and that a clock of it stops the second program.
 
-Exit status: 0 no difference; 1 a difference, which is shown, or a number that a
-call can answer never came, or, with as many calls or sessions as these, some
-case of a long grant, or a FILE can't be read; 2 bad arguments.
+Exit status: 0 no difference; 1 a difference, or the second program stops in a
+call or doesn't where it should, which is shown, or a number that a call can
+answer never came, or, with as many calls or sessions as these, some case of a
+long grant or of a write in a wait, or a FILE can't be read; 2 bad arguments.
 ";
 
 // ---- Both sides ----------------------------------------------------------
@@ -110,6 +122,18 @@ enum Call {
     Valid,
 }
 
+impl Call {
+    /// As a session has it.
+    fn of_session(self) -> Option<session::Call> {
+        match self {
+            Call::Write { port, byte } => Some(session::Call::Write { port, byte }),
+            Call::Read { .. } => Some(session::Call::Read),
+            Call::Grant { clocks, .. } => Some(session::Call::Grant { clocks }),
+            Call::PowerOn | Call::Valid => None,
+        }
+    }
+}
+
 #[derive(PartialEq, Debug)]
 struct Answer {
     number: u8,
@@ -119,7 +143,7 @@ struct Answer {
 
 /// What one side lends, with room for buffers that are too long. A call must
 /// leave the rest alone.
-#[derive(PartialEq)]
+#[derive(Clone, PartialEq)]
 struct Buffers {
     memory: Vec<u8>,
     latches: Vec<u8>,
@@ -252,6 +276,8 @@ struct Bench {
     counts: Counts,
     /// What the accepted grants came to.
     grants: Grants,
+    /// What accepted writes in burst waits came to.
+    waits: Waits,
 }
 
 impl Bench {
@@ -261,6 +287,7 @@ impl Bench {
             model: Buffers::zero(),
             counts: Counts::default(),
             grants: Grants::of_sessions(),
+            waits: Waits::new(),
         }
     }
 
@@ -287,17 +314,23 @@ impl Bench {
     }
 
     /// Has both sides answer. Gives the number and the device afterwards, or
-    /// the whole case if they differ.
+    /// the whole case if they differ or the second program stops.
     fn call(&mut self, device: Device, call: Call) -> Result<(u8, Device), String> {
         let (library, after) = by_library(device, call, &mut self.library);
-        let model = by_model(device, call, &mut self.model);
+        let model = stops::caught(|| by_model(device, call, &mut self.model)).map_err(|text| {
+            format!("{:?}\nbefore: {:?}\nthe second program stops: {}", call, device, text)
+        })?;
         let lends = matches!(call, Call::Grant { .. });
         if library != model || (lends && self.library != self.model) {
             return Err(self.difference(device, call, &library, &model));
         }
         self.counts.of(call)[usize::from(model.number)] += 1;
-        if let (Call::Grant { clocks, .. }, 0) = (call, model.number) {
-            self.grants.count(&Grant::new(model_of(device), model.device, clocks));
+        if let (Some(accepted), 0) = (call.of_session(), model.number) {
+            let before = model_of(device);
+            self.waits.count(&before, accepted, &model.device);
+            if let Call::Grant { clocks, .. } = call {
+                self.grants.count(&Grant::new(before, model.device, clocks));
+            }
         }
         Ok((library.number, after))
     }
@@ -714,6 +747,80 @@ fn device_and_call(rng: &mut Rng, last: Device) -> (Device, Call) {
     (device, made_call(rng, device))
 }
 
+// ---- Calls about a burst wait --------------------------------------------
+
+/// A device in a burst wait, with a counter near the block's end, whose clock
+/// counts have room for the calls to come.
+fn waiting_device(rng: &mut Rng) -> Device {
+    let mut device = valid_device(rng);
+    let core = &mut device.core;
+    core.enabled = true;
+    core.slot = running_slot(rng);
+    core.slot.length = 32 * rng.pick(&[1, 1, 1, 2, 3, 255]);
+    core.slot.elapsed = match rng.below(4) {
+        0 => core.slot.bus,
+        1 => core.slot.length - 1,
+        _ => rng.between(u32::from(core.slot.bus), u32::from(core.slot.length) - 1) as u16,
+    };
+    core.slot.burst = true;
+    // 0 is what Load and Continue leave.
+    let any = rng.below(65_537);
+    let few = rng.below(5);
+    core.block.counter = rng.pick(&[few, few, few, 255, 256, 257, 65_535, 65_536, any]);
+    let about = (core.block.counter + rng.below(4)).saturating_sub(2).min(65_535);
+    core.block.length = about as u16;
+    core.control.prescaler = rng.pick(&[0, 1, 1, 2]);
+    if rng.chance(1, 2) {
+        core.pending = Pending { first: 0, second: 0, third: 0, fourth: 0 };
+    }
+    let sum = rng.pick(&[0, 1 << 32, 1 << 63]);
+    device.clocks = clocks_of(rng, sum);
+    device
+}
+
+/// The length for a block that ends at the counter, just below it or just
+/// above it, or has no byte.
+fn length_about(rng: &mut Rng, block: &Block) -> u16 {
+    let at = block.counter.saturating_sub(u32::from(block.zilog)).min(65_535) as u16;
+    rng.pick(&[at, at, at, at.saturating_sub(1), at.saturating_add(1), 0])
+}
+
+/// A byte that moves the block's end or zeroes the counter, or gets ready for
+/// it; on either port, since that moves the end as well.
+fn write_about_a_wait(rng: &mut Rng, core: &Core) -> Call {
+    let [high, low] = length_about(rng, &core.block).to_be_bytes();
+    let direction = rng.pick(&[0, 0b100]);
+    let wr0 = 1 | direction | rng.pick(&[0b0110_0000, 0b0110_0000, 0b0010_0000, 0b0100_0000]);
+    let byte = match core.pending.first {
+        model::LENGTH_LOW => low,
+        model::LENGTH_HIGH => high,
+        0 => rng.pick(&[wr0, wr0, wr0, wr0, 0xCF, 0xD3, 0xB3, 0xB3, 0x82, 0xA2, 0x83]),
+        _ => byte(rng),
+    };
+    let zilog = core.block.zilog != rng.chance(1, 4);
+    Call::Write { port: if zilog { 0x0B } else { 0x6B }, byte }
+}
+
+/// The next call on such a device: writes where it takes them, Enable where it
+/// is disabled, and clocks to the slot's end or its wait, or about there.
+fn call_about_a_wait(rng: &mut Rng, core: &Core) -> Call {
+    let slot = core.slot;
+    let waits = slot.burst && slot.elapsed >= slot.bus;
+    if waits && rng.chance(2, 3) {
+        return write_about_a_wait(rng, core);
+    }
+    if !core.enabled && rng.chance(2, 3) {
+        let port = rng.pick(&[0x6B, 0x6B, 0x0B]);
+        return Call::Write { port, byte: rng.pick(&[0x87, 0x87, 0xC0, 0xCF, 0xD3]) };
+    }
+    let left = u32::from(slot.length - slot.elapsed);
+    let any = rng.below(left + 40);
+    let clocks = rng.pick(&[left, left, left.saturating_sub(1), left + 1, left + 10, any]);
+    Call::Grant { memory: SIZE, latches: SIZE, clocks }
+}
+
+// ---- All made calls ------------------------------------------------------
+
 /// New buffers after so many calls: before long grants have spread the same
 /// bytes over them.
 const CALLS_OF_A_FILL: u64 = 512;
@@ -721,11 +828,22 @@ const CALLS_OF_A_FILL: u64 = 512;
 fn made_calls(bench: &mut Bench, seed: u64, calls: u64) -> Result<(), String> {
     let mut rng = Rng::new(seed);
     let (_, mut last) = bench.call(Device::power_on(), Call::PowerOn)?;
+    // Calls to come about the wait that the last device is in or was in.
+    let mut about_a_wait = 0;
     for number in 0..calls {
         if number % CALLS_OF_A_FILL == 0 {
             bench.fill(&mut rng);
         }
-        let (device, call) = device_and_call(&mut rng, last);
+        let (device, call) = if about_a_wait > 0 {
+            about_a_wait -= 1;
+            (last, call_about_a_wait(&mut rng, &last.core))
+        } else if rng.chance(1, 100) {
+            about_a_wait = rng.between(2, 12);
+            let device = waiting_device(&mut rng);
+            (device, call_about_a_wait(&mut rng, &device.core))
+        } else {
+            device_and_call(&mut rng, last)
+        };
         let place = |case| format!("seed {}, call {}: {}", seed, number, case);
         let (answered, after) = bench.call(device, call).map_err(place)?;
         if answered == 0 && !matches!(call, Call::Valid) {
@@ -785,6 +903,64 @@ fn stored_session(bench: &mut Bench, path: &str) -> Result<(), String> {
     run_session(bench, &session).map_err(|case| format!("{}: {}", path, case))
 }
 
+// ---- A slot that would begin with its block finished ---------------------
+
+/// Any content but for this: enabled, with no clock of a slot elapsed, and with
+/// the block finished. That alone makes it not valid.
+fn finished_device(rng: &mut Rng) -> Device {
+    let mut device = valid_device(rng);
+    let core = &mut device.core;
+    (core.enabled, core.slot) = (true, NO_SLOT);
+    core.block.counter = (block_count(&core.block) + rng.below(3)).min(65_536);
+    device
+}
+
+/// What the second program says if a clock of such a device takes place.
+fn said_by_clock(bench: &mut Bench, device: &model::Device) -> Result<(), String> {
+    let (mut device, lent) = (*device, &mut bench.model);
+    let clock = || model::one_clock(&mut device, &mut lent.memory, &mut lent.latches);
+    stops::silenced(|| stops::caught(clock))
+}
+
+const FINISHED_DEVICES: u32 = 1_000;
+
+/// No call takes the second program to its failure. It must be able to fail
+/// nevertheless, or it would guard nothing: it is tried past the refusal. The
+/// calls refuse such a device and change nothing.
+fn finished_devices(bench: &mut Bench, seed: u64) -> Result<(), String> {
+    let mut rng = Rng::new(seed);
+    let mut empty = Device::power_on();
+    empty.core.enabled = true;
+    bench.fill(&mut rng);
+    for number in 0..FINISHED_DEVICES {
+        // First the plainest one: enabled at power on, with no byte to move.
+        let device = if number == 0 { empty } else { finished_device(&mut rng) };
+        let before = model_of(device);
+        let place = |case| format!("seed {}, finished device {}: {}", seed, number, case);
+        let (counter, count) = (before.counter, model::block_count(&before));
+        let expected = format!(
+            "a slot begins with the block finished: counter {}, block count {}; \
+             no sound state comes here",
+            counter, count
+        );
+        let said = said_by_clock(bench, &before);
+        if said != Err(expected) {
+            return Err(place(format!("a clock of {:?} gives {:?}", device, said)));
+        }
+        let clocks = rng.pick(&[0, 1, 100]);
+        let grant = Call::Grant { memory: SIZE, latches: SIZE, clocks };
+        let write = Call::Write { port: 0x6B, byte: made_byte(&mut rng) };
+        for call in [grant, write, Call::Read { port: 0x6B }] {
+            let (answered, after) = bench.call(device, call).map_err(place)?;
+            if answered != 1 || model_of(after) != before || bench.library != bench.model {
+                return Err(place(format!("{:?} is not refused with 1, or changes it", call)));
+            }
+        }
+    }
+    println!("states: seed {}: {} devices with a finished block", seed, FINISHED_DEVICES);
+    Ok(())
+}
+
 // ---- The program ---------------------------------------------------------
 
 struct Options {
@@ -818,12 +994,14 @@ fn options(words: &[&str]) -> Result<Options, String> {
     Ok(options)
 }
 
-/// Prints what the grants came to. Where there were enough of them, none of it
-/// may be missing.
-fn counted(of: &str, grants: &Grants, enough: bool) -> Result<(), String> {
-    println!("{}", grants.summary(of));
-    match grants.missing() {
-        Some(missing) if enough => Err(format!("no grant of {}: {}", of, missing)),
+/// Prints what the grants and the writes in waits came to. Where there were
+/// enough of them, none of it may be missing.
+fn counted(of: &str, bench: &Bench, enough: bool) -> Result<(), String> {
+    println!("{}", bench.grants.summary(of));
+    println!("{}", bench.waits.summary(&format!("states: waits of {}", of)));
+    match (bench.grants.missing(), bench.waits.missing()) {
+        (Some(missing), _) if enough => Err(format!("no grant of {}: {}", of, missing)),
+        (_, Some(missing)) if enough => Err(format!("no wait of {}: {}", of, missing)),
         _ => Ok(()),
     }
 }
@@ -835,19 +1013,22 @@ fn compare(options: &Options) -> Result<String, String> {
         stored_session(&mut bench, path)?;
     }
     println!("states: {} stored sessions", paths.len());
-    bench.grants = Grants::of_devices();
+    for &seed in seeds {
+        finished_devices(&mut bench, seed)?;
+    }
+    (bench.grants, bench.waits) = (Grants::of_devices(), Waits::new());
     for &seed in seeds {
         println!("states: seed {}: {} calls", seed, calls);
         made_calls(&mut bench, seed, *calls)?;
     }
-    counted("devices", &bench.grants, *calls >= CALLS)?;
+    counted("devices", &bench, *calls >= CALLS)?;
     // Without the stored ones: what is made has to come to everything alone.
-    bench.grants = Grants::of_sessions();
+    (bench.grants, bench.waits) = (Grants::of_sessions(), Waits::new());
     for &seed in seeds {
         println!("states: seed {}: {} sessions", seed, sessions);
         made_sessions(&mut bench, seed, *sessions)?;
     }
-    counted("sessions", &bench.grants, *sessions >= SESSIONS)?;
+    counted("sessions", &bench, *sessions >= SESSIONS)?;
     bench.counts.summary()
 }
 

@@ -3,7 +3,7 @@
 //! In plain Rust, in place, and with nothing carried from one clock to the next
 //! but the state. It has what clocks need of the device, and no port writes or
 //! reads. Its rules are those of one clock in docs/RULES.md, and its states are
-//! valid ones.
+//! valid ones: where a slot begins, the block is not finished.
 //!
 //! Built alone, by `rustc --edition 2021 -O stepping.rs`, it runs a block of
 //! music; `stepping --help` says how. `measure.rs` includes it.
@@ -109,12 +109,6 @@ pub mod clock {
                 return;
             }
             if self.slot.elapsed == 0 {
-                if self.finished() {
-                    self.e = false;
-                    self.enabled = false;
-                    self.clocks.cpu += 1;
-                    return;
-                }
                 self.slot = self.new_slot();
             }
             self.slot.elapsed += 1;
