@@ -394,7 +394,8 @@ impl Plan {
         let mut plan = Plan::with_known_slots(rng);
         plan.mode = BURST;
         plan.prescaler = Some(rng.pick(&[1, 1, 1, 1, 2, 3, 55]));
-        plan.length = if plan.slot() == 32 { rng.pick(&[few, few, few, about_a_byte]) } else { few };
+        plan.length =
+            if plan.slot() == 32 { rng.pick(&[few, few, few, about_a_byte]) } else { few };
         plan.auto_restart = rng.chance(1, 2);
         plan
     }

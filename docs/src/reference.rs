@@ -616,11 +616,7 @@ pub mod session {
 
     /// Runs the records to the end or to the first fault. Gives the books, or
     /// the fault's number.
-    fn records(
-        session: &[u8],
-        lines: &mut String,
-        watch: Watch,
-    ) -> Result<model::Clocks, u8> {
+    fn records(session: &[u8], lines: &mut String, watch: Watch) -> Result<model::Clocks, u8> {
         let mut device = model::power_on();
         let mut memory = vec![0_u8; model::SIZE];
         let mut latches = vec![0_u8; model::SIZE];

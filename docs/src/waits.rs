@@ -105,7 +105,14 @@ const QUESTIONS: &[Question] = &[
     ("block finished, clocks end", &["in the wait", "with the slot", "later"], clocks_end),
     (
         "slot ends, block finished",
-        &["disabled", "disabled, auto restart and count 0", "restarted"],
+        &[
+            "disabled, counter at the count",
+            "disabled, above",
+            "disabled, count 0",
+            "restarted, at the count",
+            "restarted, above",
+            "disabled, auto restart and count 0",
+        ],
         ends_finished,
     ),
     ("slot ends, block unfinished", &["goes on", "goes on, auto restart"], ends_unfinished),
@@ -165,8 +172,11 @@ fn clocks_end(step: &Step) -> Option<usize> {
 }
 
 fn ends_finished(step: &Step) -> Option<usize> {
-    let auto_restart = step.before.auto_restart;
-    let came = if step.after.enabled { 2 } else { usize::from(auto_restart) };
+    let came = match (step.after.enabled, step.before.auto_restart) {
+        (false, false) => standing(&step.before),
+        (true, _) => 3 + standing(&step.before),
+        (false, true) => 5,
+    };
     (step.ends_changed_slot() && is_finished(&step.before)).then_some(came)
 }
 
@@ -224,7 +234,8 @@ impl Waits {
 
     /// The counts as lines, each after the same words.
     pub fn summary(&self, words: &str) -> String {
-        let begun = format!("{}: {} slots begun, each with a byte to move", words, self.slots_begun);
+        let begun =
+            format!("{}: {} slots begun, each with a byte to move", words, self.slots_begun);
         self.answers.lines(words) + &begun
     }
 
