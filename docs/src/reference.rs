@@ -481,16 +481,20 @@ pub mod model {
         if books_sum(d) + u128::from(clocks) > u128::from(u64::MAX) {
             return 6;
         }
-        for _ in 0..clocks {
-            one_clock(d, memory, latches);
-        }
+        take_clocks(d, memory, latches, clocks);
         0
     }
 
-    /// 01: One clock, of a sound device whose books have room for it. A host
-    /// calls `grant`, which refuses any other; this is public so that its
-    /// failure can be tried on one.
-    pub fn one_clock(d: &mut Device, memory: &mut [u8], latches: &mut [u8]) {
+    /// The clocks of an accepted grant. A host calls `grant`; this is public so
+    /// that the failure below can be tried on a device that `grant` refuses.
+    pub fn take_clocks(d: &mut Device, memory: &mut [u8], latches: &mut [u8], clocks: u32) {
+        for _ in 0..clocks {
+            one_clock(d, memory, latches);
+        }
+    }
+
+    /// 01: One clock, of a sound device whose books have room for it.
+    fn one_clock(d: &mut Device, memory: &mut [u8], latches: &mut [u8]) {
         // Not enabled: a CPU clock.
         if !d.enabled {
             d.clocks.cpu += 1;

@@ -221,7 +221,10 @@ impl Waits {
         let known = *before == self.last;
         let (changed, ended) = (known && self.changed, known && self.ended);
         let step = Step { before: *before, call, after: *after, changed, ended };
-        self.answers.count(&step);
+        // Elsewhere no question has an answer.
+        if in_burst_wait(before) || ended {
+            self.answers.count(&step);
+        }
         if matches!(call, Call::Grant { .. }) {
             self.slots_begun += step.slots_begun();
         }
