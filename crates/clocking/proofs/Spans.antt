@@ -1,29 +1,27 @@
--- The next span, by what the tests on the way say: none without room, all clocks of a disabled device, one that finds the
--- block finished, else the clocks of the present stretch that the budget has.
+-- The next span, by what the tests on the way say: none without room, all clocks of a disabled device, else the clocks of the
+-- present stretch that the budget has.
 -- Assumes nothing.
 use Prim.Native.Nat.{ℕ, _+_, _<_}
 use native.Mathlib.Omega.{arith}
 use mathlib.Core.Path.{_≡_, refl, sym, _∙_, ap, subst}
-use mathlib.Core.Bool.{Bool, true, false}
-use mathlib.Core.List.{[], _∷_}
-use lib.Dec.{eqb, ltb}
-use borrow.Author.Tests.{eq-eqb, eqb-true, lt-ltb, ltb-true}
-use Rattle.rules.specs.Choice.{every}
+use mathlib.Core.Bool.{true, false}
+use lib.Dec.{ltb}
+use borrow.Author.Tests.{lt-ltb, ltb-true}
 use Rattle.rules.specs.Parts.{withSlot}
-use Rattle.rules.specs.Blocks.{finished}
 use Rattle.rules.specs.Validity.{validCore}
-use Rattle.rules.specs.Clock.{cpuClock, stopped, slotClock}
+use Rattle.rules.specs.Clock.{cpuClock, slotClock}
 use Rattle.rules.specs.Buffers.{source, destination}
 use Rattle.rules.specs.Spans.{span, IsSpan, IsLongestSpan}
-use Rattle.rules.specs.Stretches.{least, slotOf, stretchRest}
+use Rattle.rules.specs.Slots.{slotOf}
+use Rattle.rules.specs.Stretches.{least, stretchRest}
 use Rattle.rules.specs.declared.Place.{Place}
 use Rattle.rules.specs.declared.Slot.{Slot}
 use Rattle.rules.specs.declared.Core.{Core}
 use Rattle.rules.specs.declared.Span.{Span}
-use Rattle.rules.proofs.Choice.{clash, pick-true, pick-cases, either, all-true, true-all}
+use Rattle.rules.proofs.Choice.{pick-true, pick-cases}
 use Rattle.rules.proofs.Validity.{valid-bounded}
 use Rattle.rules.proofs.Spans.{span-none}
-use Rattle.rules.proofs.Stretches.{Least, least-facts, slot-elapsed, rest-facts, next-span, next-longest, idle-span, idle-longest, stop-span, stop-longest}
+use Rattle.rules.proofs.Stretches.{Least, least-facts, slot-elapsed, rest-facts, next-span, next-longest, idle-span, idle-longest}
 use Rattle.clocking.specs.Answers.{tick, roomFor, MayRun}
 use Rattle.clocking.specs.declared.clock.Tick.{Tick}
 
@@ -69,27 +67,11 @@ none-answers c budget e x =
 pub idle-answers : (c : Core) (budget : ℕ) {r : Span} → c .enabled ≡ false → r ≡ span cpuClock budget false c c → IsLongestSpan c budget r
 idle-answers c budget off x = rw x (idle-span c budget off, idle-longest c budget off)
 
--- a slot would begin, and the block is finished
-abbrev pub startsFinished : Core → Bool
-startsFinished c = every (eqb (c .slot .elapsed) 0 ∷ finished (c .block) ∷ [])
-
-pub stop-answers : (c : Core) (budget : ℕ) {next : Core} {r : Span} → c .enabled ≡ true → startsFinished c ≡ true → 0 < budget → next ≡ stopped c → r ≡ span cpuClock 1 false c next → IsLongestSpan c budget r
-stop-answers c budget on e some n x =
-    let h = all-true _ e in
-    let z = eqb-true (c .slot .elapsed) 0 (h .0) in
-    rw (x, n) (stop-span c on z (h .1 .0) budget some, stop-longest c on z (h .1 .0) budget)
-
 -- a core that runs: its budget is what it has room for
-pub may-run : (c : Core) (budget room : ℕ) → room ≡ roomFor c budget → (room ≡ 0 → ⊥) → c .enabled ≡ true → startsFinished c ≡ false → MayRun c room
-may-run c budget room e n on f =
+pub may-run : (c : Core) (budget room : ℕ) → room ≡ roomFor c budget → (room ≡ 0 → ⊥) → c .enabled ≡ true → MayRun c room
+may-run c budget room e n on =
     let h = roomy c budget (λ z. n (e ∙ z)) in
-    record { on = on; fresh = fresh; counter = h .0; elapsed = h .1; some = positive n }
-  where
-    fresh : c .slot .elapsed ≡ 0 → finished (c .block) ≡ false
-    fresh z =
-        either (finished (c .block))
-        (λ d. clash (sym f ∙ true-all (eqb (c .slot .elapsed) 0 ∷ finished (c .block) ∷ []) (eq-eqb (c .slot .elapsed) 0 z, (d, tt))))
-        (λ d. d)
+    record { on = on; counter = h .0; elapsed = h .1; some = positive n }
 
 module _ {c : Core} {budget rest clocks : ℕ} {s : Slot} (m : MayRun c budget) (a : s ≡ slotOf c) (b : rest ≡ stretchRest s) (n : clocks ≡ least budget rest) where
   fewest : Least budget (stretchRest (slotOf c)) clocks
@@ -113,4 +95,4 @@ module _ {c : Core} {budget rest clocks : ℕ} {s : Slot} (m : MayRun c budget) 
   unfolding slotClock
   slot-answers e x f g =
       rw (x, e, a, f, g)
-      (next-span c (m .on) (m .fresh) fewest (m .some), next-longest c (m .on) (m .fresh) fewest (m .some))
+      (next-span c (m .on) fewest (m .some), next-longest c (m .on) fewest (m .some))

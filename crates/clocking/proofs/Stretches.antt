@@ -6,7 +6,8 @@ use mathlib.Core.Path.{_≡_, sym, _∙_, ap, subst}
 use mathlib.Core.Bool.{Bool, true, false, _&&_}
 use mathlib.Core.List.{[]}
 use lib.Dec.{ltb}
-use Rattle.rules.specs.Stretches.{slotOf, stretchRest, quiet, elapsedBy}
+use Rattle.rules.specs.Slots.{slotOf}
+use Rattle.rules.specs.Stretches.{stretchRest, quiet, elapsedBy}
 use Rattle.rules.specs.declared.Slot.{Slot}
 use Rattle.rules.specs.declared.Core.{Core}
 use Rattle.rules.proofs.Choice.{clash, pick-true, pick-false, either, every-last, every-step}

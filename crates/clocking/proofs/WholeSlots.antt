@@ -11,7 +11,7 @@ use mathlib.Core.List.{List}
 use Rattle.rules.specs.Choice.{pick}
 use Rattle.rules.specs.Parts.{withPointer}
 use Rattle.rules.specs.Ports.{advanced, stride, steppedBy, advancedBy}
-use Rattle.rules.specs.Blocks.{blockCount}
+use Rattle.rules.specs.Blocks.{bytesLeft}
 use Rattle.rules.specs.Slots.{newSlot}
 use Rattle.rules.specs.Buffers.{Buffers, flat, placeOf, source, destination, transfer}
 use Rattle.rules.specs.Stretches.{least}
@@ -32,17 +32,14 @@ module _ (c : Core) {starts : Bool} (e : starts ≡ atSlotStart c) (t : starts �
   start : AtSlotStart c
   start = at-slot-start c (sym e ∙ t)
 
-  -- the length is not 0, and the counter is below the block count
+  -- the length is not 0
   pub length-some : {slot : Slot} → slot ≡ newSlot c → 0 < slot .length
   length-some s = rw s (start .length)
 
-  pub counter-below : {count : ℕ} → count ≡ blockCount (c .block) → c .block .counter ≤ count
-  counter-below n = omega (arith, start .block, n)
-
-  pub slots-at-start : (budget : ℕ) {slot : Slot} {count r : ℕ} → slot ≡ newSlot c → count ≡ blockCount (c .block) → r ≡ least (budget / slot .length) (count - c .block .counter) → r ≡ slotsWithin c budget
+  pub slots-at-start : (budget : ℕ) {slot : Slot} {left r : ℕ} → slot ≡ newSlot c → left ≡ bytesLeft (c .block) → r ≡ least (budget / slot .length) left → r ≡ slotsWithin c budget
   unfolding slotsWithin
   slots-at-start budget s n x =
-      x ∙ (λ i. least (budget / s i .length) (n i - c .block .counter)) ∙ sym (pick-true _ _ _ (sym e ∙ t))
+      x ∙ (λ i. least (budget / s i .length) (n i)) ∙ sym (pick-true _ _ _ (sym e ∙ t))
 
 -- a product fits 64 bits
 pub times-fit : (k n : ℕ) → k < 4294967296 → n < 65536 → k * n < 18446744073709551616

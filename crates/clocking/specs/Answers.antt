@@ -7,12 +7,12 @@ use mathlib.Core.List.{List}
 use lib.Dec.{leb, ltb}
 use Rattle.rules.specs.Choice.{pick}
 use Rattle.rules.specs.Ports.{advancedBy}
-use Rattle.rules.specs.Blocks.{finished}
 use Rattle.rules.specs.Validity.{most64}
 use Rattle.rules.specs.Clock.{Kind, busClock, withCount, Clock, waitKind}
 use Rattle.rules.specs.Buffers.{Buffers, flat}
 use Rattle.rules.specs.Spans.{kindCode}
-use Rattle.rules.specs.Stretches.{slotOf, quiet, elapsedBy}
+use Rattle.rules.specs.Slots.{slotOf}
+use Rattle.rules.specs.Stretches.{quiet, elapsedBy}
 use Rattle.rules.specs.WholeSlots.{transferred}
 use Rattle.rules.specs.declared.Port.{Port}
 use Rattle.rules.specs.declared.Slot.{Slot}
@@ -36,7 +36,6 @@ roomFor c budget = pick (ltb (c .block .counter) 4294967295) (pick (ltb (c .slot
 -- a core that runs its slot or begins one, with room for a clock, and clocks for it
 pub record MayRun (c : Core) (budget : ℕ) : Type 0 where
   pub on : c .enabled ≡ true
-  pub fresh : c .slot .elapsed ≡ 0 → finished (c .block) ≡ false
   pub counter : c .block .counter < 4294967295
   pub elapsed : c .slot .elapsed < 65535
   pub some : 0 < budget

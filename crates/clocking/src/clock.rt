@@ -75,7 +75,7 @@ fn slot_cleared(c: Core) -> Core
 }
 
 // The block has ended and the device is disabled.
-pub(crate) fn stop(c: Core) -> Core
+fn stop(c: Core) -> Core
     ensures { λ r. ⌜ r ≡ stopped c ⌝ }
 {
     let c = command::block_ended(c);

@@ -21,13 +21,11 @@ use rules::Slot;
 fn at_slot_start(c: Core) -> bool
     ensures { λ r. ⌜ r ≡ atSlotStart c ⌝ }
 {
-    let b = c.block;
-    let ended = block::is_finished(b);
     let slot = slot::new_slot(c);
-    c.enabled & ((c.slot.elapsed == 0) & (!ended & (0 < slot.length)))
+    c.enabled & ((c.slot.elapsed == 0) & (0 < slot.length))
 }
 
-// The whole slots that a budget has room for, up to the block's end: none but at the start of one.
+// The whole slots that a budget has room for, and the block bytes: none but at the start of one.
 pub fn slots_within(c: Core, budget: u32) -> u32
     ensures { λ r. ⌜ r ≡ slotsWithin c budget ⌝ }
 {
@@ -35,9 +33,8 @@ pub fn slots_within(c: Core, budget: u32) -> u32
         let slot = slot::new_slot(c);
         let length = slot.length as u32;
         let b = c.block;
-        let count = block::block_count(b);
+        let left = block::bytes_left(b);
         let fitting = budget / length;
-        let left = count - c.block.counter;
         return stretch::least(fitting, left);
     }
     0

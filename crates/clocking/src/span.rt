@@ -1,17 +1,12 @@
 // The span of clocks that a core answers.
 ghost use mathlib.Core.Path.{_≡_};
 ghost use mathlib.Core.Bool.{false};
-ghost use mathlib.Core.List.{[], _∷_};
-ghost use lib.Dec.{eqb};
-ghost use Rattle.rules.specs.Choice.{every};
-ghost use Rattle.rules.specs.Blocks.{finished};
 ghost use Rattle.rules.specs.Clock.{cpuClock};
 ghost use Rattle.rules.specs.Spans.{span, IsLongestSpan};
 ghost use Rattle.clocking.specs.Answers.{roomFor, MayRun};
 use crate::clock;
 use crate::place;
 use crate::stretch;
-use parts::block;
 use rules::Core;
 use rules::Span;
 
@@ -42,15 +37,6 @@ fn cpu_span(clocks: u32, c: Core, next: Core) -> Span
         to,
         next,
     }
-}
-
-// A slot would begin, and the block is finished.
-fn starts_finished(c: Core) -> bool
-    ensures { λ r. ⌜ r ≡ every (eqb (c .slot .elapsed) 0 ∷ finished (c .block) ∷ []) ⌝ }
-{
-    let b = c.block;
-    let done = block::is_finished(b);
-    (c.slot.elapsed == 0) & done
 }
 
 // The next span of a slot that runs or begins.
@@ -90,10 +76,6 @@ pub fn next_span(c: Core, budget: u32) -> Span
     }
     if !c.enabled {
         return cpu_span(room, c, c);
-    }
-    if starts_finished(c) {
-        let next = clock::stop(c);
-        return cpu_span(1, c, next);
     }
     slot_span(c, room)
 }

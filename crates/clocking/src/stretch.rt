@@ -1,7 +1,8 @@
 // The rest of a slot's bus time or of its wait, and clocks that end before it does.
 ghost use mathlib.Core.Path.{_≡_};
 ghost use Prim.Native.Nat.{_+_, _<_};
-ghost use Rattle.rules.specs.Stretches.{least, slotOf, slotRest, stretchRest, elapsedBy};
+ghost use Rattle.rules.specs.Slots.{slotOf};
+ghost use Rattle.rules.specs.Stretches.{least, slotRest, stretchRest, elapsedBy};
 ghost use Rattle.clocking.specs.Answers.{waitAnswer};
 use parts::slot;
 use rules::Core;
@@ -71,8 +72,7 @@ fn elapse(n: u32, s: Slot) -> Slot
     next
 }
 
-// `n` clocks of the slot that runs or begins, if they end before its present stretch does: of an enabled core, whose block
-// is not finished where a slot begins.
+// `n` clocks of the slot that runs or begins, if they end before its present stretch does: of an enabled core.
 pub fn wait_within(n: u32, c: Core) -> Wait
     ensures { λ r. ⌜ r ≡ waitAnswer n c ⌝ }
 {

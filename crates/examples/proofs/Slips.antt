@@ -2,12 +2,16 @@
 -- Assumes nothing.
 use Prim.Native.Nat.{ℕ}
 use native.Mathlib.Omega.{arith}
-use mathlib.Core.Path.{_≡_, ap}
+use mathlib.Core.Path.{_≡_, refl, ap}
 use mathlib.Core.List.{List}
 use lib.ListN.{getD, length}
-use Rattle.examples.specs.Slips.{savedCopy, NotSaved, NotWhole, NotModeByRead, NotWithoutContinue, NotWithoutZero, NotPassed, NotAnew}
+use Rattle.examples.specs.Slips.{savedCopy, NotSaved, NotWhole, NotModeByRead, NotOfInvalid, NotWithoutContinue, NotWithoutZero, NotPassed, NotAnew}
 use Rattle.examples.specs.ShortLists.{sent}
+use Rattle.rules.specs.Clock.{Clock}
+use Rattle.rules.specs.World.{System}
+use Rattle.rules.specs.Spans.{kindCode}
 use Rattle.rules.specs.Accounts.{bytesNoted, zeroedNoted}
+use Rattle.rules.specs.Recheck.{clockWithRecheck, firstClockWithRecheck}
 use Rattle.examples.specs.RowsOpened.{rowsOpened}
 
 -- at 1002 stands the first byte and not the second
@@ -24,6 +28,17 @@ not-whole e = let z : _≡_ {A = ℕ} 0xE1 0xA1 = ap (λ (m : List ℕ). getD m 
 pub not-mode-by-read : NotModeByRead
 unfolding rowsOpened
 not-mode-by-read e = let z : _≡_ {A = ℕ} 0x106 0x105 = e in omega arith
+
+-- the recheck gives the clock to the processor, the rules to the bus
+pub not-of-invalid : NotOfInvalid
+unfolding rowsOpened clockWithRecheck firstClockWithRecheck
+not-of-invalid =
+    record {
+      invalid = refl;
+      clocks = λ e. let z : _≡_ {A = ℕ} 2 0 = ap (λ (x : Clock). kindCode (x .kind)) e in omega arith;
+      systems = λ e. let z : _≡_ {A = ℕ} 0 1 = ap (λ (s : System (List ℕ)). s .clocks .bus) e in omega arith;
+      refused = refl;
+    }
 
 -- one byte has moved, and no counter but Load's 0 is noted
 pub not-without-continue : NotWithoutContinue

@@ -2,19 +2,23 @@
 -- Assumes nothing.
 use Prim.Native.Nat.{ℕ, zero, suc, _+_}
 use mathlib.Core.Path.{_≡_}
+use mathlib.Core.Bool.{false}
 use mathlib.Core.List.{List, [], _∷_}
 use lib.ListN.{take, drop, getD, set}
 use Rattle.rules.specs.Blocks.{blockCount}
 use Rattle.rules.specs.Parts.{withSlot}
 use Rattle.rules.specs.Slots.{noSlot}
+use Rattle.rules.specs.Validity.{validCore}
 use Rattle.rules.specs.Registers.{inMode}
 use Rattle.rules.specs.Readback.{readByte}
+use Rattle.rules.specs.Clock.{clockOf}
 use Rattle.rules.specs.Buffers.{flat}
-use Rattle.rules.specs.World.{System}
+use Rattle.rules.specs.World.{System, clockedBy, clocked}
 use Rattle.rules.specs.Calls.{grant}
 use Rattle.rules.specs.Entries.{flatOutside, portWrite}
 use Rattle.rules.specs.History.{Past, grantPassed, history, pastAtPowerOn}
 use Rattle.rules.specs.Accounts.{bytesNoted, zeroedNoted}
+use Rattle.rules.specs.Recheck.{clockWithRecheck, emptyBlock}
 use Rattle.examples.specs.Rows.{Row, withCore, start, played}
 use Rattle.examples.specs.WorkedExamples.{threeClocks, overlap, modeByParameter}
 use Rattle.examples.specs.ShortLists.{sent, granting, blocks, zeros}
@@ -47,6 +51,16 @@ modeAtEnd = played (modeByParameter .actions) start .world .core
 
 abbrev pub NotModeByRead : Type 0
 NotModeByRead = blockCount (readByte modeAtEnd .core .block) ≡ blockCount (modeByRead 0x6B modeAtEnd .block) → ⊥
+
+-- ---- the recheck
+
+-- the two clocks taken for one at every core: at one that is not valid they differ, and so does what a clock of its system
+-- would leave. A grant refuses it
+pub record NotOfInvalid : Type 0 where
+  pub invalid : validCore emptyBlock ≡ false
+  pub clocks : clockWithRecheck emptyBlock ≡ clockOf emptyBlock → ⊥
+  pub systems : clockedBy clockWithRecheck flat 1 (withCore emptyBlock start) ≡ clocked flat 1 (withCore emptyBlock start) → ⊥
+  pub refused : grant flat (withCore emptyBlock start) 1 .answered .number ≡ 1
 
 -- ---- the history
 

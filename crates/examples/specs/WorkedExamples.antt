@@ -385,6 +385,132 @@ table =
     ∷ enabled true
     ∷ counter 0
     ∷ [])
+    -- length lowered to the counter in a wait: the wait goes on, and the slot's last clock ends the block
+    ∷ row "length lowered to the counter"
+    (send 0x6B (program 0x1000 4 (0x22 ∷ 0x01 ∷ []) 0xCD 0x2000 0x82)
+    ∷ clocks 42
+    ∷ counter 2
+    ∷ send 0x6B (0x65 ∷ 0x02 ∷ 0x00 ∷ [])
+    ∷ count 2
+    ∷ status 0x3B
+    ∷ clocks 21
+    ∷ enabled true
+    ∷ status 0x3B
+    ∷ clocks 1
+    ∷ enabled false
+    ∷ status 0x1B
+    ∷ clocks 5
+    ∷ counter 2
+    ∷ counts 8 0 61
+    ∷ memory 0x2000 (0xA1 ∷ 0xA2 ∷ 0xE3 ∷ [])
+    ∷ [])
+    -- length lowered below the counter: the same, and Enable finds the block finished
+    ∷ row "length lowered below the counter"
+    (send 0x6B (program 0x1000 4 (0x22 ∷ 0x01 ∷ []) 0xCD 0x2000 0x82)
+    ∷ clocks 42
+    ∷ send 0x6B (0x65 ∷ 0x01 ∷ 0x00 ∷ [])
+    ∷ count 1
+    ∷ clocks 21
+    ∷ enabled true
+    ∷ clocks 1
+    ∷ enabled false
+    ∷ counter 2
+    ∷ send 0x6B (0x8B ∷ 0x87 ∷ [])
+    ∷ enabled false
+    ∷ status 0x1A
+    ∷ clocks 5
+    ∷ counter 2
+    ∷ counts 8 0 61
+    ∷ memory 0x2000 (0xA1 ∷ 0xA2 ∷ 0xE3 ∷ [])
+    ∷ [])
+    -- length lowered below the counter under auto restart: the block begins again with its new length
+    ∷ row "length lowered under auto restart"
+    (send 0x6B (program 0x1000 4 (0x22 ∷ 0x01 ∷ []) 0xCD 0x2000 0xA2)
+    ∷ clocks 42
+    ∷ send 0x6B (0x65 ∷ 0x01 ∷ 0x00 ∷ [])
+    ∷ clocks 22
+    ∷ enabled true
+    ∷ status 0x1B
+    ∷ counter 0
+    ∷ pointers 0x1000 0x2000
+    ∷ clocks 4
+    ∷ counter 1
+    ∷ pointers 0x1001 0x2001
+    ∷ clocks 28
+    ∷ enabled true
+    ∷ counter 0
+    ∷ pointers 0x1000 0x2000
+    ∷ counts 12 0 84
+    ∷ [])
+    -- length lowered and raised again in the same wait: the block goes on
+    ∷ row "length lowered and raised in a wait"
+    (send 0x6B (program 0x1000 2 (0x22 ∷ 0x01 ∷ []) 0xCD 0x2000 0x82)
+    ∷ clocks 10
+    ∷ send 0x6B (0x65 ∷ 0x00 ∷ 0x00 ∷ [])
+    ∷ count 0
+    ∷ clocks 21
+    ∷ send 0x6B (0x65 ∷ 0x02 ∷ 0x00 ∷ [])
+    ∷ clocks 1
+    ∷ enabled true
+    ∷ status 0x3B
+    ∷ counter 1
+    ∷ clocks 32
+    ∷ enabled false
+    ∷ counts 8 0 56
+    ∷ memory 0x2000 (0xA1 ∷ 0xA2 ∷ 0xE3 ∷ [])
+    ∷ [])
+    -- length 0 and Load in a wait: counter and block count are both 0, and the slot's last clock ends the block
+    ∷ row "length 0 and Load in a wait"
+    (send 0x6B (program 0x1000 2 (0x22 ∷ 0x01 ∷ []) 0xCD 0x2000 0x82)
+    ∷ clocks 10
+    ∷ send 0x6B (0x65 ∷ 0x00 ∷ 0x00 ∷ 0xCF ∷ [])
+    ∷ count 0
+    ∷ counter 0
+    ∷ clocks 21
+    ∷ enabled true
+    ∷ status 0x3B
+    ∷ clocks 1
+    ∷ enabled false
+    ∷ status 0x1B
+    ∷ pointers 0x1000 0x2000
+    ∷ clocks 5
+    ∷ counts 4 0 33
+    ∷ [])
+    -- back to zxn mode in a wait: an ignored byte on 6B makes the block one shorter, and its last byte has moved
+    ∷ row "back to zxn mode in a wait"
+    (send 0x0B (program 0x1000 1 (0x22 ∷ 0x01 ∷ []) 0xCD 0x2000 0x82)
+    ∷ clocks 10
+    ∷ count 2
+    ∷ counter 1
+    ∷ send 0x6B (0x86 ∷ [])
+    ∷ count 1
+    ∷ clocks 21
+    ∷ enabled true
+    ∷ status 0x3B
+    ∷ clocks 1
+    ∷ enabled false
+    ∷ status 0x1B
+    ∷ clocks 5
+    ∷ counts 4 0 33
+    ∷ memory 0x2000 (0xA1 ∷ 0xE2 ∷ [])
+    ∷ [])
+    -- Disable and Enable behind a lowered length: Enable looks at the block, and the device stays disabled
+    ∷ row "Enable behind a lowered length"
+    (send 0x6B (program 0x1000 3 (0x22 ∷ 0x01 ∷ []) 0xCD 0x2000 0x82)
+    ∷ clocks 10
+    ∷ send 0x6B (0x65 ∷ 0x01 ∷ 0x00 ∷ 0x83 ∷ [])
+    ∷ status 0x3B
+    ∷ send 0x6B (0x87 ∷ [])
+    ∷ enabled false
+    ∷ status 0x1B
+    ∷ clocks 5
+    ∷ counts 4 0 11
+    ∷ send 0x0B (0x87 ∷ [])
+    ∷ enabled true
+    ∷ clocks 4
+    ∷ counter 2
+    ∷ counts 8 0 11
+    ∷ [])
     -- writes to I/O: the latch at the port's address is set, also the device's own, and nothing else
     ∷ row "writes to I/O"
     (latch 0x6A (0xE1 ∷ 0xE2 ∷ 0xE3 ∷ [])

@@ -1,6 +1,6 @@
-// The block count, and whether a block is finished.
+// The block count, the bytes left, and whether a block is finished.
 ghost use mathlib.Core.Path.{_≡_};
-ghost use Rattle.rules.specs.Blocks.{blockCount, finished};
+ghost use Rattle.rules.specs.Blocks.{blockCount, bytesLeft, finished};
 use rules::Block;
 
 // The bytes of a block.
@@ -12,6 +12,17 @@ pub fn block_count(b: Block) -> u32
         return length + 1;
     }
     length
+}
+
+// The bytes of a block that have not moved: none where the counter is above the block count.
+pub fn bytes_left(b: Block) -> u32
+    ensures { λ r. ⌜ r ≡ bytesLeft b ⌝ }
+{
+    let count = block_count(b);
+    if b.counter < count {
+        return count - b.counter;
+    }
+    0
 }
 
 // The counter is at or above the block count.

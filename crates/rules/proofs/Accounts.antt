@@ -17,9 +17,9 @@ use Rattle.rules.specs.Readback.{readByte}
 use Rattle.rules.specs.Buffers.{Store, Buffers}
 use Rattle.rules.specs.World.{World, System, Note, step, note, stepCounted, clocked}
 use Rattle.rules.specs.Refusals.{accessRefusal, grantRefusal}
-use Rattle.rules.specs.Calls.{Reply, Answer, refused, unlessRefused, writeReply, readReply, beside, write, read, grantNumber, grant}
-use Rattle.rules.specs.Entries.{Outside, Entry, portWrite, portRead, clockGrant, otherGrant, outsideChange, besideBuffers, grantOther, enter, run, systemAtPowerOn}
-use Rattle.rules.specs.History.{Event, clockNoted, counterZeroed, Past, withCore, writePassed, clockPassed, clocksPassed, grantPassed, notedUnless, noteEntry, history, pastAtPowerOn}
+use Rattle.rules.specs.Calls.{Reply, Answer, refused, unlessRefused, writeReply, readReply, beside, write, read, grantNumber, grant, grantBy}
+use Rattle.rules.specs.Entries.{Outside, Entry, portWrite, portRead, clockGrant, otherGrant, outsideChange, besideBuffers, grantOtherBy, enter, run, systemAtPowerOn, runBy}
+use Rattle.rules.specs.History.{Event, clockNoted, counterZeroed, Past, withCore, writePassed, clockPassed, clocksPassed, grantPassed, notedUnless, noteEntry, history, pastAtPowerOn, clocksPassedBy, historyBy}
 use Rattle.rules.specs.Accounts.{ofKind, clocksNoted, bytesOf, bytesNoted, heldBefore, zeroedNoted, clocksAsked, clocksAccepted, numbersOf, Demand3}
 use Rattle.rules.specs.declared.Clocks.{Clocks}
 use Rattle.rules.proofs.Choice.{pick-cases, pick-both, pick-true, pick-false, pick-ap}
@@ -121,13 +121,13 @@ module _ {M : Type 0} (σ : Store M) where
       }
 
   clocks-agree : (n : ℕ) (s : System M) (p : Past M) → Clocked s p → Clocked (clocked σ n s) (clocksPassed σ n p)
-  unfolding clocksPassed
+  unfolding clocksPassedBy
   clocks-agree zero s p c = rw (clocked-zero σ s) c
   clocks-agree (suc n) s p c =
       rw (clocked-suc σ n s) (clock-agrees (clocked σ n s) (clocksPassed σ n p) (clocks-agree n s p c))
 
   clocks-sum : (n : ℕ) (p : Past M) → clocksPassed σ n p .sum ≡ p .sum
-  unfolding clocksPassed
+  unfolding clocksPassedBy
   clocks-sum zero p = refl
   clocks-sum (suc n) p = clocks-sum n p
 
@@ -142,7 +142,7 @@ module _ {M : Type 0} (σ : Store M) where
       (λ z. record { world = refl; sum = refl; counts = counts-zeroed _ es _ _ (write-zero port byte (s .world .core) z) c })
       (λ z. record { world = refl; sum = refl; counts = counts-same _ es _ _ (write-same port byte (s .world .core) z) c })
 
-  -- nothing has changedOutside
+  -- nothing has changed
   as-before : (s : System M) (es : List Event) → Counts (s .clocks) es (s .world .core .block .counter) → Agree s (pastOf s es)
   as-before s es c = record { world = refl; sum = refl; counts = c }
 
@@ -178,7 +178,7 @@ module _ {M : Type 0} (σ : Store M) where
       record { world = k .world; sum = clocked-total σ n s ∙ sym (clocks-sum n p); counts = k .counts }
 
   own-step : (s : System M) (es : List Event) (n : ℕ) → Counts (s .clocks) es (s .world .core .block .counter) → Step n s (grant σ s n) (grantNumber σ s n) (notedUnless (grantNumber σ s n) (grantPassed σ n (pastOf s es)) (pastOf s es) .past)
-  unfolding grant notedUnless
+  unfolding grantBy notedUnless
   own-step s es n c =
       both-picked (λ (a : Answer M) (q : Past M). Step n s a (grantNumber σ s n) q) _ _ _ _ _
       (λ d. record { number = sym (eqb-true _ _ d); agree = granted-agrees s es n c; sum = clocked-total σ n s ∙ granted-clocks n _ })
@@ -190,12 +190,12 @@ module _ {M C : Type 0} (σ : Store M) (ω : Outside M C) where
   otherNumber s n b = grantRefusal σ (s .world .core) (total (s .clocks)) b n
 
   -- it is refused, and nothing changes
-  other-answer : (s : System M) (n : ℕ) (b : Buffers M) → (otherNumber s n b ≡ 0 → ⊥) → _≡_ {A = Answer M} (record { answered = refused (otherNumber s n b); system = s }) (grantOther σ ω s n b)
+  other-answer : (s : System M) (n : ℕ) (b : Buffers M) → (otherNumber s n b ≡ 0 → ⊥) → _≡_ {A = Answer M} (record { answered = refused (otherNumber s n b); system = s }) (grantOtherBy clockOf σ s n b)
   other-answer s n b wrong =
       ap (λ (a : Answer M). record { answered = a .answered; system = besideBuffers (s .world .buffers) (a .system) })
       (grant-refuses σ (besideBuffers b s) n (otherNumber s n b) refl wrong)
 
-  other-step : (s : System M) (es : List Event) (n : ℕ) (b : Buffers M) → (otherNumber s n b ≡ 0 → ⊥) → Counts (s .clocks) es (s .world .core .block .counter) → Step n s (grantOther σ ω s n b) (otherNumber s n b) (notedUnless (otherNumber s n b) (grantPassed σ n (pastOf s es)) (pastOf s es) .past)
+  other-step : (s : System M) (es : List Event) (n : ℕ) (b : Buffers M) → (otherNumber s n b ≡ 0 → ⊥) → Counts (s .clocks) es (s .world .core .block .counter) → Step n s (grantOtherBy clockOf σ s n b) (otherNumber s n b) (notedUnless (otherNumber s n b) (grantPassed σ n (pastOf s es)) (pastOf s es) .past)
   unfolding notedUnless
   other-step s es n b wrong c =
       subst (λ (a : Answer M). Step n s a (otherNumber s n b) (notedUnless (otherNumber s n b) (grantPassed σ n (pastOf s es)) (pastOf s es) .past))
@@ -229,7 +229,7 @@ module _ {M C : Type 0} (σ : Store M) (ω : Outside M C) where
     numbers : numbersOf (run σ ω es s .answers) ≡ history σ ω es p .numbers
 
   pub ends : (es : List (Entry σ C)) (s : System M) (p : Past M) → Agree s p → Ends es s p
-  unfolding run history clocksAccepted numbersOf
+  unfolding runBy historyBy clocksAccepted numbersOf
   ends [] s p a = record { agree = a; sum = sym (add-zero _); numbers = refl }
   ends (e ∷ es) s p a =
       let k = entry-step e s p a in

@@ -15,7 +15,7 @@ use Rattle.rules.specs.Facts.{ValidParts, InRange, Kept}
 use Rattle.rules.specs.Buffers.{Store, flat, Buffers}
 use Rattle.rules.specs.World.{System, clocked}
 use Rattle.rules.specs.Refusals.{wrongPort, accessRefusal, lentRefusal, grantRefusal}
-use Rattle.rules.specs.Calls.{Reply, Answer, accepted, refused, unlessRefused, writeReply, readReply, write, read, grantNumber, grant}
+use Rattle.rules.specs.Calls.{Reply, Answer, accepted, refused, unlessRefused, writeReply, readReply, write, read, grantNumber, grant, grantBy}
 use Rattle.rules.specs.Keeping.{ValidDevice, StaysValid, StaysValidByTest, HandsBack}
 use Rattle.rules.specs.Opened.{opened}
 use Rattle.rules.specs.declared.Clocks.{Clocks}
@@ -144,7 +144,7 @@ ValidSystem s = ValidDevice (s .world .core) (s .clocks)
 
 module _ {M : Type 0} (σ : Store M) where
   grant-valid : (s : System M) (n : ℕ) → ValidSystem s → ValidSystem (grant σ s n .system)
-  unfolding grant
+  unfolding grantBy
   grant-valid s n h =
       pick-cases (λ (a : Answer M). ValidSystem (a .system)) _ _ _
       (λ e.
@@ -154,7 +154,7 @@ module _ {M : Type 0} (σ : Store M) where
 
   -- a refused one hands everything back
   grant-refused : (s : System M) (n : ℕ) → (grant σ s n .answered .number ≡ 0 → ⊥) → grant σ s n ≡ record { answered = record { number = grantNumber σ s n; byte = 0 }; system = s }
-  unfolding grant
+  unfolding grantBy
   grant-refused s n =
       pick-cases
       (λ (a : Answer M). (a .answered .number ≡ 0 → ⊥) → a ≡ record { answered = record { number = grantNumber σ s n; byte = 0 }; system = s })
@@ -172,11 +172,11 @@ read-refused c k port = unless-refused _ _ _ c k
 
 module _ {M : Type 0} (σ : Store M) where
   pub grant-accepts : (s t : System M) (n : ℕ) → grantNumber σ s n ≡ 0 → t ≡ clocked σ n s → _≡_ {A = Answer M} (record { answered = accepted 0; system = t }) (grant σ s n)
-  unfolding grant
+  unfolding grantBy
   grant-accepts s t n e h = sym (pick-true _ _ _ (eq-eqb _ _ e) ∙ (λ i. record { answered = accepted 0; system = sym h i }))
 
   pub grant-refuses : (s : System M) (n k : ℕ) → grantNumber σ s n ≡ k → (k ≡ 0 → ⊥) → _≡_ {A = Answer M} (record { answered = refused k; system = s }) (grant σ s n)
-  unfolding grant
+  unfolding grantBy
   grant-refuses s n k e h =
       sym
       (pick-false _ _ _ (ne-eqb _ _ (λ z. h (sym e ∙ z))) ∙ (λ i. record { answered = refused (e i); system = s }))

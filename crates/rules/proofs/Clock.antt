@@ -3,7 +3,7 @@
 -- Assumes nothing.
 use Prim.Native.Nat.{ℕ, _+_, _≤_, _<_}
 use native.Mathlib.Omega.{arith}
-use mathlib.Core.Path.{_≡_, refl}
+use mathlib.Core.Path.{_≡_, refl, sym, subst}
 use mathlib.Core.Bool.{Bool, true, false}
 use mathlib.Core.List.{[], _∷_}
 use lib.Dec.{ltb, eqb}
@@ -12,14 +12,14 @@ use borrow.Author.Tests.{ltb-true, eqb-true, eqb-false}
 use Rattle.rules.specs.Choice.{every}
 use Rattle.rules.specs.Parts.{withSlot}
 use Rattle.rules.specs.Blocks.{blockCount, finished}
-use Rattle.rules.specs.Slots.{noSlot, unmoved, slotLength, newSlot}
+use Rattle.rules.specs.Slots.{noSlot, unmoved, slotLength, newSlot, slotOf}
 use Rattle.rules.specs.Facts.{Kept, SlotLength, busTime, prescaled, ValidSlot, resting, running}
-use Rattle.rules.specs.Clock.{Clock, moved, withElapsed, movesAt, movedAt, Ending, slotEnd, clockEnd, slotClock, firstClock, clockOf}
+use Rattle.rules.specs.Clock.{Clock, moved, withElapsed, movesAt, movedAt, Ending, slotEnd, clockEnd, slotClock, begun, clockOf}
 use Rattle.rules.specs.declared.Slot.{Slot}
 use Rattle.rules.specs.declared.Core.{Core}
 use Rattle.rules.proofs.Choice.{clash, pick-cases, all-true}
 use Rattle.rules.proofs.Blocks.{unfinished-room, reloaded-unfinished}
-use Rattle.rules.proofs.Slots.{unmoved-cases, unmoved-below}
+use Rattle.rules.proofs.Slots.{unmoved-cases, unmoved-first, unmoved-below}
 use Rattle.rules.proofs.Ports.{good-advanced, good-loaded}
 use Rattle.rules.proofs.Steady.{SteadyCore, steady-a, steady-b, steady-block, kept-from, kept-steady, kept-slot, kept-progress}
 
@@ -126,16 +126,21 @@ next-turn c k (running o r) on e =
       unfinished = λ h. kept-progress c k on (unmoved-below (c .slot) (omega arith));
     }
 
+-- the next clock of the slot that runs or begins
+begun-turn : (c : Core) → Kept c → c .enabled ≡ true → Turn (c .slot .elapsed + 1) (begun c)
+unfolding slotOf
+begun-turn c k on =
+    pick-cases (λ (s : Slot). Turn (c .slot .elapsed + 1) (withSlot s c)) (eqb (c .slot .elapsed) 0) _ _
+    (λ z.
+    let e = eqb-true (c .slot .elapsed) 0 z in
+    subst (λ n. Turn (n + 1) (withSlot (newSlot c) c)) (sym e)
+    (first-turn c (kept-steady c k) on (kept-progress c k on (unmoved-first (c .slot) e))))
+    (λ z. next-turn c k (kept-slot c k) on (eqb-false _ _ z))
+
 -- one clock keeps a valid core valid
 pub clock-kept : (c : Core) → Kept c → Kept (clockOf c .next)
-unfolding clockOf firstClock
+unfolding clockOf
 clock-kept c k =
-    let s = kept-steady c k in
     pick-cases (λ (x : Clock). Kept (x .next)) _ _ _
-    (λ on.
-    pick-cases (λ (x : Clock). Kept (x .next)) _ _ _
-    (λ z.
-    pick-cases (λ (x : Clock). Kept (x .next)) _ _ _ (λ e. kept-from _ s (rest-slot _) (λ o u. clash o))
-    (λ e. slot-kept 1 _ s (first-turn c s on e)))
-    (λ z. slot-kept _ c s (next-turn c k (kept-slot c k) on (eqb-false _ _ z))))
+    (λ on. slot-kept _ (begun c) (kept-steady c k) (begun-turn c k on))
     (λ e. k)

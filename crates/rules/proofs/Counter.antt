@@ -15,7 +15,7 @@ use Rattle.rules.specs.Pending.{isPending}
 use Rattle.rules.specs.Commands.{enable, readingCommand, command}
 use Rattle.rules.specs.Registers.{wr3, register, parameter, inMode, carriedOut, effect, written}
 use Rattle.rules.specs.Readback.{Byte, readByte}
-use Rattle.rules.specs.Clock.{Clock, movesAt, movedAt, Ending, slotEnd, clockEnd, slotClock, firstClock, clockOf}
+use Rattle.rules.specs.Clock.{Clock, movesAt, movedAt, Ending, slotEnd, clockEnd, slotClock, begun, clockOf}
 use Rattle.rules.specs.History.{zeroing}
 use Rattle.rules.specs.Accounts.{heldBefore}
 use Rattle.rules.specs.Opened.{opened}
@@ -146,10 +146,6 @@ unfolding pick
 still c = omega arith
 
 pub clock-balanced : (c : Core) → Balanced (c .block .counter) (clockOf c)
-unfolding clockOf firstClock
+unfolding clockOf
 clock-balanced c =
-    pick-both (Balanced (c .block .counter)) _ _ _
-    (pick-both (Balanced (c .block .counter)) _ _ _
-    (pick-both (Balanced (c .block .counter)) _ _ _ (still _) (slot-balanced 1 _))
-    (slot-balanced _ c))
-    (still _)
+    pick-both (Balanced (c .block .counter)) _ _ _ (slot-balanced _ (begun c)) (still _)

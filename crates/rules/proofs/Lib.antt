@@ -25,3 +25,4 @@ pub mod Splitting
 pub mod Accounts
 pub mod SplittingLists
 pub mod Reached
+pub mod Recheck

@@ -8,21 +8,23 @@ use mathlib.Core.Bool.{true, false, not}
 use mathlib.Core.List.{List, [], _∷_}
 use lib.Dec.{eqb}
 use lib.ListN.{length}
-use borrow.Author.Tests.{eqb-true, eq-eqb, not-true}
+use borrow.Author.Tests.{eqb-true, eqb-false, eq-eqb, not-true}
 use Rattle.rules.specs.Choice.{firstHit}
 use Rattle.rules.specs.Bytes.{AreBytes}
+use Rattle.rules.specs.Slots.{slotOf, unmoved}
 use Rattle.rules.specs.Facts.{Kept}
-use Rattle.rules.specs.Clock.{Clock, slotClock, firstClock, clockOf}
+use Rattle.rules.specs.Clock.{Clock, slotClock, clockOf}
 use Rattle.rules.specs.Buffers.{Store, lengthRefusal, flat, Buffers}
 use Rattle.rules.specs.World.{World, System}
 use Rattle.rules.specs.Refusals.{accessRefusal, grantRefusal}
-use Rattle.rules.specs.Entries.{Outside, Poke, flatOutside, Entry, portWrite, portRead, clockGrant, otherGrant, outsideChange, bytesWritten, enter, run}
-use Rattle.rules.specs.History.{Past, writePassed, notedUnless, clocksPassed, noteEntry, history}
+use Rattle.rules.specs.Entries.{Outside, Poke, flatOutside, Entry, portWrite, portRead, clockGrant, otherGrant, outsideChange, bytesWritten, enter, run, runBy}
+use Rattle.rules.specs.History.{Past, writePassed, notedUnless, clocksPassed, noteEntry, history, clocksPassedBy, historyBy}
 use Rattle.rules.specs.Accounts.{heldBefore}
 use Rattle.rules.specs.Reached.{CountersNoted, EveryReached, NoneIs, Lends, WrongMemory, WrongLatches, OwnServe, AnswersReached}
+use Rattle.rules.specs.declared.Slot.{Slot}
 use Rattle.rules.specs.declared.Core.{Core}
 use Rattle.rules.proofs.Choice.{clash, pick-true, pick-false, pick-cases, pick-both, either, all-true}
-use Rattle.rules.proofs.Slots.{unmoved-below}
+use Rattle.rules.proofs.Slots.{slot-runs, unmoved-first, unmoved-below}
 use Rattle.rules.proofs.Steady.{kept-progress}
 use Rattle.rules.proofs.Blocks.{unfinished-room}
 use Rattle.rules.proofs.Clock.{clock-kept}
@@ -35,17 +37,21 @@ use Rattle.rules.proofs.Accounts.{Agree, entry-step, start-agrees}
 
 -- ---- counters
 
+-- before the clock on which the byte moves it has not moved
+move-unmoved : (c : Core) → c .slot .elapsed + 1 ≡ slotOf c .bus → unmoved (c .slot) ≡ true
+move-unmoved c e =
+    either (eqb (c .slot .elapsed) 0)
+    (λ z. unmoved-first (c .slot) (eqb-true _ _ z))
+    (λ z.
+    let at : c .slot .elapsed + 1 ≡ c .slot .bus = e ∙ ap (λ (s : Slot). s .bus) (slot-runs c (eqb-false _ _ z)) in
+    unmoved-below (c .slot) (omega arith))
+
 -- where a byte moves on a clock, the counter has room for it
 move-room : (c : Core) → Kept c → clockOf c .moves ≡ true → c .block .counter + 1 ≤ 65536
-unfolding clockOf firstClock slotClock
+unfolding clockOf slotClock
 move-room c k =
     pick-cases (λ (x : Clock). x .moves ≡ true → c .block .counter + 1 ≤ 65536) _ _ _
-    (λ on.
-    pick-cases (λ (x : Clock). x .moves ≡ true → c .block .counter + 1 ≤ 65536) _ _ _
-    (λ z. pick-cases (λ (x : Clock). x .moves ≡ true → c .block .counter + 1 ≤ 65536) _ _ _ (λ e m. clash m) (λ e m. unfinished-room _ (k .range .length) e))
-    (λ z m.
-    let at : c .slot .elapsed + 1 ≡ c .slot .bus = eqb-true _ _ m in
-    unfinished-room _ (k .range .length) (kept-progress c k on (unmoved-below (c .slot) (omega arith)))))
+    (λ on m. unfinished-room _ (k .range .length) (kept-progress c k on (move-unmoved c (eqb-true _ _ m))))
     (λ e m. clash m)
 
 -- what the counter held, if a clock puts it to zero
@@ -58,7 +64,7 @@ zeroed-most c k =
 
 module _ {M : Type 0} (σ : Store M) where
   clocks-noted : (n : ℕ) (p : Past M) → Kept (p .world .core) → CountersNoted (p .events) → CountersNoted (clocksPassed σ n p .events) × Kept (clocksPassed σ n p .world .core)
-  unfolding clocksPassed CountersNoted
+  unfolding clocksPassedBy CountersNoted
   clocks-noted zero p k h = (h, k)
   clocks-noted (suc n) p k h =
       let i = clocks-noted n p k h in ((zeroed-most _ (i .1), i .0), clock-kept _ (i .1))
@@ -79,7 +85,7 @@ module _ {M C : Type 0} (σ : Store M) (ω : Outside M C) where
 
   -- a list of entries
   list-noted : (es : List (Entry σ C)) (s : System M) (p : Past M) → AreBytes (bytesWritten es) → ValidSystem s → Agree s p → CountersNoted (p .events) → CountersNoted (history σ ω es p .past .events)
-  unfolding history
+  unfolding historyBy
   list-noted [] s p b v a h = h
   list-noted (e ∷ es) s p b v a h =
       let n = entry-valid σ ω e es s b v in
@@ -116,7 +122,7 @@ entry-answered (otherGrant n b wrong) s v h =
 entry-answered (outsideChange x) s v h = absurd (omega (arith, h))
 
 none-is-one : (es : List (Entry flat (List Poke))) (s : System (List ℕ)) → AreBytes (bytesWritten es) → ValidSystem s → NoneIs 1 (run flat flatOutside es s .answers)
-unfolding run NoneIs
+unfolding runBy NoneIs
 none-is-one [] s b v = tt
 none-is-one (e ∷ es) s b v =
     let n = entry-valid flat flatOutside e es s b v in (entry-answered e s v, none-is-one es _ (n .1) (n .0))
@@ -167,7 +173,7 @@ entry-five (otherGrant n b wrong) s o h = λ l. grant-not-five _ _ b n l (sym (r
 entry-five (outsideChange x) s o h = absurd (omega (arith, h))
 
 own-serve : (es : List (Entry flat (List Poke))) (s : System (List ℕ)) → Own (s .world .buffers) → OwnServe es (run flat flatOutside es s .answers)
-unfolding run OwnServe
+unfolding runBy OwnServe
 own-serve [] s o = tt
 own-serve (e ∷ es) s o = (entry-four e s o, entry-five e s o, own-serve es _ (entry-own e s o))
 

@@ -11,7 +11,7 @@ use Rattle.rules.specs.Validity.{total}
 use Rattle.rules.specs.Buffers.{flat, Buffers}
 use Rattle.rules.specs.World.{System}
 use Rattle.rules.specs.Refusals.{accessRefusal, lentRefusal, grantRefusal}
-use Rattle.rules.specs.Calls.{Answer, writeReply, readReply, grantNumber, grant}
+use Rattle.rules.specs.Calls.{Answer, writeReply, readReply, grantNumber, grant, grantBy}
 use Rattle.rules.specs.Exactly.{AccessExact, GrantExact, RefusalsExact}
 use Rattle.rules.specs.declared.Clocks.{Clocks}
 use Rattle.rules.specs.declared.Core.{Core}
@@ -89,7 +89,7 @@ unfolding readReply
 read-number c k port = unless-number _ _ _ c k
 
 grant-number : (s : System (List ℕ)) (n : ℕ) → grant flat s n .answered .number ≡ grantNumber flat s n
-unfolding grant
+unfolding grantBy
 grant-number s n =
     pick-cases (λ (a : Answer (List ℕ)). a .answered .number ≡ grantNumber flat s n) _ _ _ (λ e. sym (eqb-true _ _ e)) (λ e. refl)
 

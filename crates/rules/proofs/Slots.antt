@@ -1,16 +1,25 @@
--- The slot's tests as facts, and what a free bus says of the slot.
+-- The slot that begins or runs, the slot's tests as facts, and what a free bus says of the slot.
 -- Assumes nothing.
 use Prim.Native.Nat.{_≤_, _<_}
 use native.Mathlib.Omega.{arith}
 use mathlib.Core.Path.{_≡_, sym, _∙_}
 use mathlib.Core.Bool.{Bool, true, false, not}
 use mathlib.Core.List.{[], _∷_}
-use borrow.Author.Tests.{ltb-true, leb-true, eqb-true, eq-eqb, lt-ltb}
-use Rattle.rules.specs.Slots.{waiting, busHeld, unmoved}
+use borrow.Author.Tests.{ltb-true, leb-true, eqb-true, eq-eqb, ne-eqb, lt-ltb}
+use Rattle.rules.specs.Slots.{newSlot, slotOf, waiting, busHeld, unmoved}
 use Rattle.rules.specs.Facts.{ValidSlot, resting, running}
 use Rattle.rules.specs.declared.Slot.{Slot}
 use Rattle.rules.specs.declared.Core.{Core}
-use Rattle.rules.proofs.Choice.{clash, not-of-false, either, all-true, true-all, any-first, any-more, any-cases, any-none}
+use Rattle.rules.proofs.Choice.{clash, pick-true, pick-false, not-of-false, either, all-true, true-all, any-first, any-more, any-cases, any-none}
+
+-- the next clock begins a slot, or is one of the slot that runs
+pub slot-begins : (c : Core) → c .slot .elapsed ≡ 0 → slotOf c ≡ newSlot c
+unfolding slotOf
+slot-begins c e = pick-true _ _ _ (eq-eqb _ _ e)
+
+pub slot-runs : (c : Core) → (c .slot .elapsed ≡ 0 → ⊥) → slotOf c ≡ c .slot
+unfolding slotOf
+slot-runs c e = pick-false _ _ _ (ne-eqb _ _ e)
 
 -- waiting in a burst slot
 pub record Waiting (s : Slot) : Type 0 where

@@ -125,23 +125,6 @@ span-none c budget kind e =
       core = ticks-zero c;
     }
 
-pub span-one : (c : Core) (budget : ℕ) → (budget ≡ 0 → ⊥) → IsSpan c budget (span (clockOf c .kind) 1 (clockOf c .moves) c (clockOf c .next))
-span-one c budget n =
-    record {
-      within = omega (arith, n);
-      some = λ h. omega arith;
-      kinds = λ i h. ap (λ (d : Core). kindCode (clockOf d .kind)) (first i (omega arith));
-      quiet = λ i h. absurd (omega arith);
-      last = λ i h. ap (λ (d : Core). clockOf d .moves) (first i (omega arith));
-      source = λ i h. ap source (first i (omega arith));
-      destination = λ i h. ap destination (first i (omega arith));
-      none = λ h. absurd (omega arith);
-      core = ticks-suc 0 c ∙ ap (λ (d : Core). clockOf d .next) (ticks-zero c);
-    }
-  where
-    first : (i : ℕ) → i ≡ 0 → ticks i c ≡ c
-    first i e = ap (λ (m : ℕ). ticks m c) e ∙ ticks-zero c
-
 -- ---- a span's promise settles its answer
 
 -- a longest span is not shorter than a span within the same budget that stays within the slot

@@ -9,9 +9,9 @@ use lib.ListN.{length}
 use borrow.Author.Tests.{eq-eqb}
 use Rattle.rules.specs.Buffers.{Store}
 use Rattle.rules.specs.World.{System}
-use Rattle.rules.specs.Calls.{Answer, grant}
-use Rattle.rules.specs.Entries.{Outside, Entry, clockGrant, Run, enter, run, systemAtPowerOn}
-use Rattle.rules.specs.History.{Past, notedUnless, clockPassed, clocksPassed, grantPassed, noteEntry, history, pastAtPowerOn}
+use Rattle.rules.specs.Calls.{Answer, grant, grantBy}
+use Rattle.rules.specs.Entries.{Outside, Entry, clockGrant, Run, enter, run, systemAtPowerOn, runBy}
+use Rattle.rules.specs.History.{Past, notedUnless, clockPassed, clocksPassed, grantPassed, noteEntry, history, pastAtPowerOn, clocksPassedBy, historyBy}
 use Rattle.rules.specs.Splitting.{sumOf, AcceptedInTurn, grants, acceptedAnswers, SplitsWithin}
 use Rattle.rules.proofs.Choice.{pick-true, pick-both}
 use Rattle.rules.proofs.Entries.{reached-valid, run-behind}
@@ -23,17 +23,17 @@ module _ {M C : Type 0} (σ : Store M) (ω : Outside M C) where
 
   -- one answer for each entry
   answers-each : (es : List (Entry σ C)) (s : System M) → length (run σ ω es s .answers) ≡ length es
-  unfolding run
+  unfolding runBy
   answers-each [] s = refl
   answers-each (e ∷ es) s = ap suc (answers-each es (enter σ ω e s .system))
 
   grant-byte : (s : System M) (n : ℕ) → grant σ s n .answered .byte ≡ 0
-  unfolding grant
+  unfolding grantBy
   grant-byte s n = pick-both (λ (a : Answer M). a .answered .byte ≡ 0) _ _ _ refl refl
 
   -- grants that are accepted in turn
   grants-run : (ns : List ℕ) (s t : System M) → AcceptedInTurn σ ns s t → run σ ω (grants ns) s ≡ record { answers = acceptedAnswers ns; system = t }
-  unfolding run grants AcceptedInTurn acceptedAnswers
+  unfolding runBy grants AcceptedInTurn acceptedAnswers
   grants-run [] s t a = λ i. record { answers = []; system = a i }
   grants-run (n ∷ ns) s t a =
       let h = grants-run ns (grant σ s n .system) t (a .1) in
@@ -53,7 +53,7 @@ module _ {M C : Type 0} (σ : Store M) (ω : Outside M C) where
   -- ---- the history
 
   history-behind : (xs ys : List (Entry σ C)) (p : Past M) → history σ ω (xs ++ ys) p .past ≡ history σ ω ys (history σ ω xs p .past) .past
-  unfolding history
+  unfolding historyBy
   history-behind [] ys p = refl
   history-behind (x ∷ xs) ys p = history-behind xs ys (noteEntry σ ω x p .past)
 
@@ -62,12 +62,12 @@ module _ {M C : Type 0} (σ : Store M) (ω : Outside M C) where
   withSum k p = record { world = p .world; sum = k; events = p .events }
 
   passed-sum : (n k : ℕ) (p : Past M) → clocksPassed σ n (withSum k p) ≡ withSum k (clocksPassed σ n p)
-  unfolding clocksPassed
+  unfolding clocksPassedBy
   passed-sum zero k p = refl
   passed-sum (suc n) k p = ap (clockPassed σ) (passed-sum n k p)
 
   passed-add : (m n : ℕ) (p : Past M) → clocksPassed σ (m + n) p ≡ clocksPassed σ n (clocksPassed σ m p)
-  unfolding clocksPassed
+  unfolding clocksPassedBy
   passed-add m zero p = ap (λ (k : ℕ). clocksPassed σ k p) (add-zero m)
   passed-add m (suc n) p = ap (λ (k : ℕ). clocksPassed σ k p) (add-suc m n) ∙ ap (clockPassed σ) (passed-add m n p)
 
@@ -79,7 +79,7 @@ module _ {M C : Type 0} (σ : Store M) (ω : Outside M C) where
       ∙ sym (ap (grantPassed σ n) (passed-sum m (p .sum + m) p) ∙ passed-sum n (p .sum + m + n) (clocksPassed σ m p))
 
   granted-none : (p : Past M) → grantPassed σ 0 p ≡ p
-  unfolding clocksPassed
+  unfolding clocksPassedBy
   granted-none p = λ i. withSum (add-zero (p .sum) i) p
 
   -- an accepted grant in the history of a run
@@ -89,7 +89,7 @@ module _ {M C : Type 0} (σ : Store M) (ω : Outside M C) where
 
   -- grants that are accepted in turn
   grants-noted : (ns : List ℕ) (s t : System M) (p : Past M) → Agree s p → AcceptedInTurn σ ns s t → history σ ω (grants ns) p .past ≡ grantPassed σ (sumOf ns) p
-  unfolding history grants AcceptedInTurn sumOf
+  unfolding historyBy grants AcceptedInTurn sumOf
   grants-noted [] s t p a h = sym (granted-none p)
   grants-noted (n ∷ ns) s t p a h =
       grants-noted ns _ t _ (entry-step σ ω (clockGrant n) s p a .agree) (h .1)

@@ -9,23 +9,23 @@ use mathlib.Core.Bool.{Bool, true, false}
 use mathlib.Core.List.{[], _∷_}
 use mathlib.Core.Option.{none}
 use lib.Dec.{eqb, leb, ltb}
-use borrow.Author.Tests.{eq-eqb, ne-eqb, le-leb, lt-leb, lt-ltb, le-ltb, eqb-true, eqb-false, ltb-true, ltb-false, leb-true}
+use borrow.Author.Tests.{eq-eqb, ne-eqb, le-leb, lt-leb, lt-ltb, le-ltb, eqb-true, ltb-true, ltb-false, leb-true}
 use Rattle.rules.specs.Choice.{pick, any}
 use Rattle.rules.specs.Parts.{withSlot}
-use Rattle.rules.specs.Blocks.{finished}
-use Rattle.rules.specs.Slots.{newSlot}
-use Rattle.rules.specs.Clock.{Kind, busClock, cpuClock, countedBy, Clock, Ending, clock, moved, withElapsed, stopped, movesAt, movedAt, waitKind, kindAt, slotEnd, clockEnd, slotClock, firstClock, clockOf}
+use Rattle.rules.specs.Slots.{newSlot, slotOf}
+use Rattle.rules.specs.Clock.{Kind, busClock, cpuClock, countedBy, Clock, Ending, clock, moved, withElapsed, movesAt, movedAt, waitKind, kindAt, slotEnd, clockEnd, slotClock, clockOf, begun}
 use Rattle.rules.specs.Buffers.{Store, Buffers, source, destination}
 use Rattle.rules.specs.World.{system, buffersAfter, clocked}
 use Rattle.rules.specs.Spans.{kindCode, ticks, span, IsSpan, endsSlot, IsLongest}
-use Rattle.rules.specs.Stretches.{least, slotOf, begun, slotRest, stretchRest, quiet, elapsedBy, WaitsAreClocks}
+use Rattle.rules.specs.Stretches.{least, slotRest, stretchRest, quiet, elapsedBy, WaitsAreClocks}
 use Rattle.rules.specs.declared.Place.{Place}
 use Rattle.rules.specs.declared.Slot.{Slot}
 use Rattle.rules.specs.declared.Clocks.{Clocks}
 use Rattle.rules.specs.declared.Core.{Core}
 use Rattle.rules.specs.declared.Span.{Span}
 use Rattle.rules.proofs.Choice.{pick-true, pick-false, pick-both, pick-cases, pick-ap, either, all-true, true-all, any-first, any-more, any-cases, any-none, every-stop, every-stop-later, clash}
-use Rattle.rules.proofs.Spans.{kind-of-code, ticks-zero, ticks-suc, span-one, span-clocked}
+use Rattle.rules.proofs.Slots.{slot-begins, slot-runs}
+use Rattle.rules.proofs.Spans.{kind-of-code, ticks-zero, ticks-suc, span-clocked}
 
 -- ---- a slot's n-th clock
 
@@ -59,13 +59,15 @@ last-rests n c h =
     (ap (λ (x : Ending). x .core .slot .elapsed) (pick-false _ _ _ (le-ltb n (c .slot .length) h)) ∙ end-rests c)
 
 -- an enabled core's clock is its slot's next one
-pub clock-first : (c : Core) → c .enabled ≡ true → c .slot .elapsed ≡ 0 → finished (c .block) ≡ false → clockOf c ≡ slotClock 1 (withSlot (newSlot c) c)
-unfolding clockOf firstClock
-clock-first c on e u = pick-true _ _ _ on ∙ pick-true _ _ _ (eq-eqb _ _ e) ∙ pick-false _ _ _ u
+pub clock-begun : (c : Core) → c .enabled ≡ true → clockOf c ≡ slotClock (c .slot .elapsed + 1) (begun c)
+unfolding clockOf
+clock-begun c on = pick-true _ _ _ on
+
+pub clock-first : (c : Core) → c .enabled ≡ true → c .slot .elapsed ≡ 0 → clockOf c ≡ slotClock (c .slot .elapsed + 1) (withSlot (newSlot c) c)
+clock-first c on e = clock-begun c on ∙ ap (λ (s : Slot). slotClock (c .slot .elapsed + 1) (withSlot s c)) (slot-begins c e)
 
 pub clock-later : (c : Core) → c .enabled ≡ true → (c .slot .elapsed ≡ 0 → ⊥) → clockOf c ≡ slotClock (c .slot .elapsed + 1) c
-unfolding clockOf
-clock-later c on e = pick-true _ _ _ on ∙ pick-false _ _ _ (ne-eqb _ _ e)
+clock-later c on e = clock-begun c on ∙ ap (λ (s : Slot). slotClock (c .slot .elapsed + 1) (withSlot s c)) (slot-runs c e)
 
 -- ---- a stretch within a slot
 
@@ -77,22 +79,11 @@ pub record Runs (c d : Core) : Type 0 where
   pub source : source c ≡ source d
   pub destination : destination c ≡ destination d
 
--- the core of an enabled device runs: at the start of a slot its block is not finished
-runs-begun : (c : Core) → c .enabled ≡ true → (c .slot .elapsed ≡ 0 → finished (c .block) ≡ false) → Runs c (begun c)
-unfolding slotOf source destination
-runs-begun c on u =
-    record {
-      on = on;
-      running = on;
-      first =
-          pick-cases (λ (s : Slot). clockOf c ≡ slotClock (c .slot .elapsed + 1) (withSlot s c)) (eqb (c .slot .elapsed) 0) _ _
-          (λ z.
-          let e = eqb-true (c .slot .elapsed) 0 z in
-          clock-first c on e (u e) ∙ ap (λ (n : ℕ). slotClock (n + 1) (withSlot (newSlot c) c)) (sym e))
-          (λ z. clock-later c on (eqb-false _ _ z));
-      source = refl;
-      destination = refl;
-    }
+-- the core of an enabled device runs
+runs-begun : (c : Core) → c .enabled ≡ true → Runs c (begun c)
+unfolding source destination
+runs-begun c on =
+    record { on = on; running = on; first = clock-begun c on; source = refl; destination = refl }
 
 -- n clocks of the stretch as a span
 abbrev pub stretch : Core → Core → ℕ → Span
@@ -297,7 +288,7 @@ slot-elapsed c =
     pick-cases (λ (s : Slot). s .elapsed ≡ c .slot .elapsed) (eqb (c .slot .elapsed) 0) _ _
     (λ e. sym (eqb-true (c .slot .elapsed) 0 e)) (λ e. refl)
 
-module _ (c : Core) (on : c .enabled ≡ true) (fresh : c .slot .elapsed ≡ 0 → finished (c .block) ≡ false) where
+module _ (c : Core) (on : c .enabled ≡ true) where
   -- clocks of the present stretch
   within-slot : (n : ℕ) → n ≤ stretchRest (slotOf c) → Within (c .slot .elapsed) n (slotOf c)
   within-slot n h = subst (λ (e : ℕ). Within e n (slotOf c)) (slot-elapsed c) (rest-facts (slotOf c) .within n h)
@@ -307,10 +298,10 @@ module _ (c : Core) (on : c .enabled ≡ true) (fresh : c .slot .elapsed ≡ 0 �
     next-some = positive (l .first) (l .one) (rest-facts (slotOf c) .some) some
 
     pub next-span : IsSpan c budget (stretch c (begun c) n)
-    next-span = stretch-span (runs-begun c on fresh) (within-slot n (l .second)) budget next-some (l .first)
+    next-span = stretch-span (runs-begun c on) (within-slot n (l .second)) budget next-some (l .first)
 
     pub next-longest : IsLongest c budget (stretch c (begun c) n)
-    next-longest = stretch-longest (runs-begun c on fresh) (within-slot n (l .second)) budget (λ h. reached (l .one h))
+    next-longest = stretch-longest (runs-begun c on) (within-slot n (l .second)) budget (λ h. reached (l .one h))
       where
         reached : n ≡ stretchRest (slotOf c) → any (movesAt (c .slot .elapsed + n) (begun c) ∷ leb (slotOf c .length) (c .slot .elapsed + n) ∷ []) ≡ true
         reached e =
@@ -353,35 +344,6 @@ idle-longest c budget off =
       idle = λ e. refl;
     }
 
--- ---- the look at the block on a slot's first clock
-
-module _ (c : Core) (on : c .enabled ≡ true) (rest : c .slot .elapsed ≡ 0) (done : finished (c .block) ≡ true) where
-  clock-stops : clockOf c ≡ clock cpuClock false none (stopped c)
-  unfolding clockOf firstClock
-  clock-stops = pick-true _ _ _ on ∙ pick-true _ _ _ (eq-eqb _ _ rest) ∙ pick-true _ _ _ done
-
-  -- one clock, with which the device is disabled
-  pub stop-span : (budget : ℕ) → 0 < budget → IsSpan c budget (span cpuClock 1 false c (stopped c))
-  stop-span budget h =
-      subst (λ (x : Clock). IsSpan c budget (span (x .kind) 1 (x .moves) c (x .next))) clock-stops
-      (span-one c budget (λ z. omega arith))
-
-  pub stop-longest : (budget : ℕ) → IsLongest c budget (span cpuClock 1 false c (stopped c))
-  stop-longest budget =
-      record {
-        inside = λ i l. absurd (omega arith);
-        reached = λ i e l. any-more _ _ (any-first _ _ (ap endsSlot (here i (omega arith)) ∙ ends));
-        idle = λ off. clash (sym off ∙ on);
-      }
-    where
-      here : (i : ℕ) → i ≡ 0 → ticks i c ≡ c
-      here i e = ap (λ (n : ℕ). ticks n c) e ∙ ticks-zero c
-
-      ends : endsSlot c ≡ true
-      ends =
-          true-all (c .enabled ∷ eqb (clockOf c .next .slot .elapsed) 0 ∷ [])
-          (on, (ap (λ (x : Clock). eqb (x .next .slot .elapsed) 0) clock-stops, tt))
-
 -- ---- clocks on which nothing happens
 
 still : {M : Type 0} (σ : Store M) (moves : Bool) (from to : Place) (b : Buffers M) → moves ≡ false → buffersAfter σ moves from to b ≡ b
@@ -419,15 +381,14 @@ kind-elapsed n e s c h = ap (λ (m : ℕ). kindAt (m + n) (withSlot s c)) (sym h
 
 -- clocks of an enabled one that end before the stretch does
 quiet-clocked :
-    {M : Type 0} (σ : Store M) (n : ℕ) (c : Core) (b : Buffers M) (k : Clocks) → c .enabled ≡ true
-    → (c .slot .elapsed ≡ 0 → finished (c .block) ≡ false) → quiet n (slotOf c) ≡ true
+    {M : Type 0} (σ : Store M) (n : ℕ) (c : Core) (b : Buffers M) (k : Clocks) → c .enabled ≡ true → quiet n (slotOf c) ≡ true
     → clocked σ n (system c b k) ≡ system (withSlot (elapsedBy n (slotOf c)) c) b (countedBy (kindAt (slotOf c .elapsed + n) (withSlot (elapsedBy n (slotOf c)) c)) n k)
-quiet-clocked σ n c b k on fresh h =
+quiet-clocked σ n c b k on h =
     let q = quiet-facts n (slotOf c) h in
     let e = slot-elapsed c in
     let p = plain q e in
     still-clocked σ (kindAt (c .slot .elapsed + n) (begun c)) b k
-    (stretch-span (runs-begun c on fresh) (within-slot c on fresh n (omega (arith, q .below))) n (q .some) (le-refl n))
+    (stretch-span (runs-begun c on) (within-slot c on n (omega (arith, q .below))) n (q .some) (le-refl n))
     (ne-eqb (c .slot .elapsed + n) (slotOf c .bus) (p .0))
     ∙ (λ i.
     system

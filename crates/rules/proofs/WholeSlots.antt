@@ -7,13 +7,13 @@ use native.Mathlib.Nat.{add-assoc, suc-mul, one-mul, le-refl, div-mul-le-self, m
 use mathlib.Core.Path.{_≡_, refl, sym, _∙_, ap}
 use mathlib.Core.Bool.{Bool, true, false}
 use lib.Dec.{ltb}
-use borrow.Author.Tests.{eq-eqb, ne-eqb, le-leb, lt-leb, lt-ltb, le-ltb, ltb-true, ltb-false, eqb-true, leb-false, not-true}
+use borrow.Author.Tests.{eq-eqb, ne-eqb, le-leb, lt-leb, lt-ltb, le-ltb, ltb-true, ltb-false, eqb-true}
 use Rattle.rules.specs.Choice.{pick}
 use Rattle.rules.specs.Parts.{withCounter, withBlock, withSlot}
-use Rattle.rules.specs.Blocks.{blockCount, finished}
+use Rattle.rules.specs.Blocks.{blockCount, bytesLeft, finished}
 use Rattle.rules.specs.Ports.{steppedBy}
 use Rattle.rules.specs.Slots.{noSlot, newSlot}
-use Rattle.rules.specs.Facts.{ValidParts, Kept, SlotLength, busTime, prescaled, ValidSlot, resting, running}
+use Rattle.rules.specs.Facts.{Kept, SlotLength, busTime, prescaled, ValidSlot, resting, running}
 use Rattle.rules.specs.Clock.{busClock, countedBy, Ending, moved, withElapsed, movesAt, movedAt, waitKind, kindAt, slotEnd, clockEnd, slotClock}
 use Rattle.rules.specs.Buffers.{Store, Buffers, source, destination, transfer}
 use Rattle.rules.specs.World.{System, system, buffersAfter, clocked}
@@ -22,8 +22,6 @@ use Rattle.rules.specs.declared.Slot.{Slot}
 use Rattle.rules.specs.declared.Clocks.{Clocks}
 use Rattle.rules.specs.declared.Core.{Core}
 use Rattle.rules.proofs.Choice.{pick-true, pick-false, pick-cases, either, all-true}
-use Rattle.rules.proofs.Slots.{unmoved-first}
-use Rattle.rules.proofs.Validity.{progress-facts}
 use Rattle.rules.proofs.Steady.{kept-steady, kept-slot}
 use Rattle.rules.proofs.Clock.{new-length}
 use Rattle.rules.proofs.World.{clocked-add}
@@ -67,7 +65,6 @@ wait-kind c h = pick-false _ _ _ (lt-leb (c .slot .length) (c .slot .bus) h)
 pub record Starts (c : Core) : Type 0 where
   pub on : c .enabled ≡ true
   pub rest : c .slot .elapsed ≡ 0
-  pub unfinished : finished (c .block) ≡ false
   pub some : 0 < newSlot c .bus
   pub fits : newSlot c .bus ≤ newSlot c .length
 
@@ -90,7 +87,7 @@ starts-runs c t =
     record {
       on = t .on;
       running = t .on;
-      first = clock-first c (t .on) (t .rest) (t .unfinished) ∙ ap (λ (n : ℕ). slotClock (n + 1) (withSlot (newSlot c) c)) (sym (t .rest));
+      first = clock-first c (t .on) (t .rest);
       source = refl;
       destination = refl;
     }
@@ -195,8 +192,8 @@ module _ {M : Type 0} (σ : Store M) (c : Core) (b : Buffers M) (k : Clocks) (t 
   unfolding finished blockCount
   below j h = lt-leb _ _ h
 
-  starts-below : (j : ℕ) → c .block .counter + j < blockCount (c .block) → Starts (movedBy j c)
-  starts-below j h = record { on = t .on; rest = t .rest; unfinished = below j h; some = t .some; fits = t .fits }
+  starts-moved : (j : ℕ) → Starts (movedBy j c)
+  starts-moved j = record { on = t .on; rest = t .rest; some = t .some; fits = t .fits }
 
   -- below the block's end a slot begins as the last one did
   end-below : (j : ℕ) → c .block .counter + j < blockCount (c .block) → slotEnd (movedBy j c) .core ≡ movedBy j c
@@ -213,7 +210,7 @@ module _ {M : Type 0} (σ : Store M) (c : Core) (b : Buffers M) (k : Clocks) (t 
       ap (λ (n : ℕ). clocked σ n (system c b k)) (suc-mul (suc j) (newSlot c .length))
       ∙ clocked-add σ (suc j * newSlot c .length) (newSlot c .length) (system c b k)
       ∙ ap (clocked σ (newSlot c .length)) (slots-clocked j (omega arith) ∙ ap (λ (d : Core). system d (transferred σ (suc j) c b) (slotsCounted (suc j) (newSlot c) k)) (end-below (suc j) (omega arith)))
-      ∙ slot-clocked σ (movedBy (suc j) c) (transferred σ (suc j) c b) (slotsCounted (suc j) (newSlot c) k) (starts-below (suc j) (omega arith))
+      ∙ slot-clocked σ (movedBy (suc j) c) (transferred σ (suc j) c b) (slotsCounted (suc j) (newSlot c) k) (starts-moved (suc j))
       ∙ (λ i. system (slotEnd (moved-more (suc j) c i) .core) (transferred σ (suc (suc j)) c b)
       (counted-again (c .control .burst) (suc j) (newSlot c .length - newSlot c .bus) (newSlot c .bus) k i))
 
@@ -223,17 +220,12 @@ length-fits : (s : Slot) → s .bus ≤ 8 → SlotLength s → s .bus ≤ s .len
 length-fits s h (busTime e) = omega arith
 length-fits s h (prescaled l m e) = omega arith
 
--- at the start of a slot the block is not finished
-pub valid-fresh : (c : Core) → ValidParts c → c .enabled ≡ true → c .slot .elapsed ≡ 0 → finished (c .block) ≡ false
-valid-fresh c v on e = progress-facts _ _ _ (v .progress) on (unmoved-first (c .slot) e)
-
 pub kept-starts : (c : Core) → Kept c → c .enabled ≡ true → c .slot .elapsed ≡ 0 → Starts c
 kept-starts c k on e =
     let s = kept-steady c k in
     record {
       on = on;
       rest = e;
-      unfinished = valid-fresh c (k .valid) on e;
       some = omega (arith, s .a .cycle, s .b .cycle);
       fits = length-fits (newSlot c) (omega (arith, s .a .cycle, s .b .cycle)) (new-length c (s .prescaler));
     }
@@ -258,18 +250,16 @@ pub record IsRun (c : Core) (budget k : ℕ) : Type 0 where
 pub record AtSlotStart (c : Core) : Type 0 where
   pub on : c .enabled ≡ true
   pub rest : c .slot .elapsed ≡ 0
-  pub block : c .block .counter < blockCount (c .block)
   pub length : 0 < newSlot c .length
 
 pub at-slot-start : (c : Core) → atSlotStart c ≡ true → AtSlotStart c
-unfolding atSlotStart finished
+unfolding atSlotStart
 at-slot-start c e =
     let h = all-true _ e in
     record {
       on = h .0;
       rest = eqb-true (c .slot .elapsed) 0 (h .1 .0);
-      block = leb-false (blockCount (c .block)) (c .block .counter) (not-true _ (h .1 .1 .0));
-      length = ltb-true 0 (newSlot c .length) (h .1 .1 .1 .0);
+      length = ltb-true 0 (newSlot c .length) (h .1 .1 .0);
     }
 
 pub run-within : (c : Core) (budget : ℕ) → 0 < slotsWithin c budget → IsRun c budget (slotsWithin c budget)
@@ -278,12 +268,12 @@ run-within c budget =
     pick-cases (λ (n : ℕ). 0 < n → IsRun c budget n) (atSlotStart c) _ _
     (λ e p.
     let h = at-slot-start c e in
-    let l = least-facts (budget / newSlot c .length) (blockCount (c .block) - c .block .counter) in
+    let l = least-facts (budget / newSlot c .length) (bytesLeft (c .block)) in
     record {
       on = h .on;
       rest = h .rest;
       within = le-trans (mul-le-mul-right (newSlot c .length) (l .first)) (div-mul-le-self budget (newSlot c .length));
-      block = omega (arith, h .block, l .second);
+      block = omega (arith, p, l .second);
     })
     (λ e p. absurd (omega arith))
 

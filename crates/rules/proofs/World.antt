@@ -9,7 +9,7 @@ use Rattle.rules.specs.Validity.{total}
 use Rattle.rules.specs.Facts.{Kept}
 use Rattle.rules.specs.Clock.{Kind, busClock, heldClock, cpuClock, countedBy, clockOf}
 use Rattle.rules.specs.Buffers.{Store}
-use Rattle.rules.specs.World.{System, stepCounted, clocked}
+use Rattle.rules.specs.World.{System, stepCounted, clocked, clockedBy}
 use Rattle.rules.specs.declared.Clocks.{Clocks}
 use Rattle.rules.proofs.Clock.{clock-kept}
 
@@ -21,11 +21,11 @@ total-counted cpuClock n x = omega arith
 
 module _ {M : Type 0} (σ : Store M) where
   pub clocked-zero : (s : System M) → clocked σ 0 s ≡ s
-  unfolding clocked
+  unfolding clockedBy
   clocked-zero s = refl
 
   pub clocked-suc : (n : ℕ) (s : System M) → clocked σ (suc n) s ≡ stepCounted σ (clocked σ n s)
-  unfolding clocked
+  unfolding clockedBy
   clocked-suc n s = refl
 
   -- clocks of m + n are n after m

@@ -1,6 +1,6 @@
--- The block count, and whether a block is finished.
+-- The block count, the bytes left, and whether a block is finished.
 -- Assumes nothing.
-use Prim.Native.Nat.{ℕ, _+_}
+use Prim.Native.Nat.{ℕ, _+_, _-_}
 use mathlib.Core.Bool.{Bool}
 use lib.Dec.{leb}
 use Rattle.rules.specs.Choice.{pick}
@@ -9,6 +9,10 @@ use Rattle.rules.specs.declared.Block.{Block}
 -- the bytes of a block: the length in zxn mode, one more in Zilog mode, so 0 to 65,536
 unfoldable pub blockCount : Block → ℕ
 blockCount b = pick (b .zilog) (b .length + 1) (b .length)
+
+-- the bytes of a block that have not moved; none where the counter is above the block count
+abbrev pub bytesLeft : Block → ℕ
+bytesLeft b = blockCount b - b .counter
 
 -- the counter is at or above the block count
 unfoldable pub finished : Block → Bool

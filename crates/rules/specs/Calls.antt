@@ -6,8 +6,9 @@ use Rattle.rules.specs.Choice.{pick}
 use Rattle.rules.specs.Validity.{total}
 use Rattle.rules.specs.Registers.{written}
 use Rattle.rules.specs.Readback.{readByte}
+use Rattle.rules.specs.Clock.{Clock, clockOf}
 use Rattle.rules.specs.Buffers.{Store, Buffers}
-use Rattle.rules.specs.World.{System, clocked}
+use Rattle.rules.specs.World.{System, clockedBy}
 use Rattle.rules.specs.Refusals.{accessRefusal, grantRefusal}
 use Rattle.rules.specs.declared.Clocks.{Clocks}
 use Rattle.rules.specs.declared.Core.{Core}
@@ -66,9 +67,13 @@ module _ {M : Type 0} (σ : Store M) where
   abbrev pub grantNumber : System M → ℕ → ℕ
   grantNumber s n = grantRefusal σ (s .world .core) (total (s .clocks)) (s .world .buffers) n
 
-  -- a grant: all of its clocks, one after the other
-  unfoldable pub grant : System M → ℕ → Answer M
-  grant s n =
-      pick (eqb (grantNumber s n) 0)
-      (record { answered = accepted 0; system = clocked σ n s })
-      (record { answered = refused (grantNumber s n); system = s })
+-- a grant by a clock κ of the core: all of its clocks, one after the other
+unfoldable pub grantBy : {M : Type 0} → (Core → Clock) → Store M → System M → ℕ → Answer M
+grantBy κ σ s n =
+    pick (eqb (grantNumber σ s n) 0)
+    (record { answered = accepted 0; system = clockedBy κ σ n s })
+    (record { answered = refused (grantNumber σ s n); system = s })
+
+-- by the rules' clock
+abbrev pub grant : {M : Type 0} → Store M → System M → ℕ → Answer M
+grant σ s n = grantBy clockOf σ s n

@@ -9,7 +9,7 @@ use Rattle.rules.specs.Choice.{pick, every}
 use Rattle.rules.specs.Parts.{withCounter, withT, withA, withB, withBlock, withStatus, withSlot}
 use Rattle.rules.specs.Ports.{advanced}
 use Rattle.rules.specs.Blocks.{blockCount, finished}
-use Rattle.rules.specs.Slots.{noSlot, newSlot}
+use Rattle.rules.specs.Slots.{noSlot, slotOf}
 use Rattle.rules.specs.Commands.{blockEnded, disable, load}
 use Rattle.rules.specs.declared.Port.{Port}
 use Rattle.rules.specs.declared.Clocks.{Clocks}
@@ -109,13 +109,10 @@ unfoldable pub slotClock : ℕ → Core → Clock
 slotClock n c =
     let end : Ending = clockEnd n (movedAt n c) in clock (kindAt n c) (movesAt n c) (end .zeroed) (end .core)
 
--- a slot's first clock looks at the block once more (ours), then fixes the slot's figures
-unfoldable pub firstClock : Core → Clock
-firstClock c = pick (finished (c .block)) (clock cpuClock false none (stopped c)) (slotClock 1 (withSlot (newSlot c) c))
+-- the core with the figures of the slot that runs, or that begins and fixes them
+abbrev pub begun : Core → Core
+begun c = withSlot (slotOf c) c
 
--- one clock
+-- one clock: the next one of the slot that runs or begins; of a disabled device one of the processor
 unfoldable pub clockOf : Core → Clock
-clockOf c =
-    pick (c .enabled)
-    (pick (eqb (c .slot .elapsed) 0) (firstClock c) (slotClock (c .slot .elapsed + 1) c))
-    (clock cpuClock false none c)
+clockOf c = pick (c .enabled) (slotClock (c .slot .elapsed + 1) (begun c)) (clock cpuClock false none c)

@@ -5,9 +5,11 @@ use mathlib.Core.Path.{_≡_}
 use mathlib.Core.List.{List, [], _∷_}
 use lib.ListN.{length, set}
 use Rattle.rules.specs.PowerOn.{powerOn, noClocks}
+use Rattle.rules.specs.Clock.{Clock, clockOf}
 use Rattle.rules.specs.Buffers.{Store, Buffers}
 use Rattle.rules.specs.World.{System}
-use Rattle.rules.specs.Calls.{Answered, Answer, accepted, write, read, grant}
+use Rattle.rules.specs.Calls.{Answered, Answer, accepted, write, read, grantBy}
+use Rattle.rules.specs.declared.Core.{Core}
 
 -- the changes of a memory from outside: each kind of change, and what it makes of the memory
 pub record Outside (M C : Type 0) : Type 0 where
@@ -58,34 +60,43 @@ pub record Run (M : Type 0) : Type 0 where
 abbrev pub besideBuffers : {M : Type 0} → Buffers M → System M → System M
 besideBuffers b s = record { world = record { core = s .world .core; buffers = b }; clocks = s .clocks }
 
-module _ {M C : Type 0} (σ : Store M) (ω : Outside M C) where
-  -- a grant of other buffers: the list keeps its own
-  abbrev pub grantOther : System M → ℕ → Buffers M → Answer M
-  grantOther s n b =
-      let a : Answer M = grant σ (besideBuffers b s) n in
-      record { answered = a .answered; system = besideBuffers (s .world .buffers) (a .system) }
+-- the memory changed from outside; the latches stay
+abbrev pub changedOutside : {M C : Type 0} → Outside M C → C → System M → System M
+changedOutside ω x s =
+    besideBuffers (record { memory = ω .change x (s .world .buffers .memory); latches = s .world .buffers .latches }) s
 
-  -- the memory changed from outside; the latches stay
-  abbrev pub changedOutside : C → System M → System M
-  changedOutside x s =
-      besideBuffers (record { memory = ω .change x (s .world .buffers .memory); latches = s .world .buffers .latches }) s
+-- a grant of other buffers: the list keeps its own
+abbrev pub grantOtherBy : {M : Type 0} → (Core → Clock) → Store M → System M → ℕ → Buffers M → Answer M
+grantOtherBy κ σ s n b =
+    let a : Answer _ = grantBy κ σ (besideBuffers b s) n in
+    record { answered = a .answered; system = besideBuffers (s .world .buffers) (a .system) }
 
+-- by a clock κ of the core
+module _ {M C : Type 0} (κ : Core → Clock) (σ : Store M) (ω : Outside M C) where
   -- one entry, by the calls' own definitions; an outside change is answered with 0
-  abbrev pub enter : Entry σ C → System M → Answer M
-  enter (portWrite port byte) s = write s port byte
-  enter (portRead port) s = read s port
-  enter (clockGrant n) s = grant σ s n
-  enter (otherGrant n b wrong) s = grantOther s n b
-  enter (outsideChange x) s = record { answered = accepted 0; system = changedOutside x s }
+  abbrev pub enterBy : Entry σ C → System M → Answer M
+  enterBy (portWrite port byte) s = write s port byte
+  enterBy (portRead port) s = read s port
+  enterBy (clockGrant n) s = grantBy κ σ s n
+  enterBy (otherGrant n b wrong) s = grantOtherBy κ σ s n b
+  enterBy (outsideChange x) s = record { answered = accepted 0; system = changedOutside ω x s }
 
   -- a list of entries
-  unfoldable pub run : List (Entry σ C) → System M → Run M
-  run [] s = record { answers = []; system = s }
-  run (e ∷ es) s =
+  unfoldable pub runBy : List (Entry σ C) → System M → Run M
+  runBy [] s = record { answers = []; system = s }
+  runBy (e ∷ es) s =
       record {
-        answers = enter e s .answered ∷ run es (enter e s .system) .answers;
-        system = run es (enter e s .system) .system;
+        answers = enterBy e s .answered ∷ runBy es (enterBy e s .system) .answers;
+        system = runBy es (enterBy e s .system) .system;
       }
+
+-- by the rules' clock
+module _ {M C : Type 0} (σ : Store M) (ω : Outside M C) where
+  abbrev pub enter : Entry σ C → System M → Answer M
+  enter e s = enterBy clockOf σ ω e s
+
+  abbrev pub run : List (Entry σ C) → System M → Run M
+  run es s = runBy clockOf σ ω es s
 
 -- power-on with a memory and latches
 abbrev pub systemAtPowerOn : {M : Type 0} → M → List ℕ → System M

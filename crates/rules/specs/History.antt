@@ -11,8 +11,9 @@ use Rattle.rules.specs.PowerOn.{powerOn}
 use Rattle.rules.specs.Pending.{isPending}
 use Rattle.rules.specs.Registers.{written}
 use Rattle.rules.specs.Readback.{readByte}
+use Rattle.rules.specs.Clock.{Clock, clockOf}
 use Rattle.rules.specs.Buffers.{Store}
-use Rattle.rules.specs.World.{World, Note, step, note}
+use Rattle.rules.specs.World.{World, Note, stepBy, noteBy}
 use Rattle.rules.specs.Refusals.{accessRefusal, grantRefusal}
 use Rattle.rules.specs.Entries.{Outside, Entry, portWrite, portRead, clockGrant, otherGrant, outsideChange}
 use Rattle.rules.specs.declared.Core.{Core}
@@ -61,55 +62,75 @@ module _ {M : Type 0} where
   unfoldable pub notedUnless : ℕ → Past M → Past M → EntryNoted M
   notedUnless number accepted p = record { number = number; past = pick (eqb number 0) accepted p }
 
-module _ {M : Type 0} (σ : Store M) where
+-- by a clock κ of the core
+module _ {M : Type 0} (κ : Core → Clock) (σ : Store M) where
   -- one clock, noted
-  abbrev pub clockPassed : Past M → Past M
-  clockPassed p =
-      record { world = step σ (p .world); sum = p .sum; events = clockNoted (note σ (p .world)) ∷ p .events }
+  abbrev pub clockPassedBy : Past M → Past M
+  clockPassedBy p =
+      record { world = stepBy κ σ (p .world); sum = p .sum; events = clockNoted (noteBy κ σ (p .world)) ∷ p .events }
 
   -- n clocks, each noted singly
-  unfoldable pub clocksPassed : ℕ → Past M → Past M
-  clocksPassed zero p = p
-  clocksPassed (suc n) p = clockPassed (clocksPassed n p)
+  unfoldable pub clocksPassedBy : ℕ → Past M → Past M
+  clocksPassedBy zero p = p
+  clocksPassedBy (suc n) p = clockPassedBy (clocksPassedBy n p)
 
   -- an accepted grant: its clocks are added to the sum, and taken singly
-  abbrev pub grantPassed : ℕ → Past M → Past M
-  grantPassed n p = clocksPassed n (record { world = p .world; sum = p .sum + n; events = p .events })
+  abbrev pub grantPassedBy : ℕ → Past M → Past M
+  grantPassedBy n p = clocksPassedBy n (record { world = p .world; sum = p .sum + n; events = p .events })
 
-module _ {M C : Type 0} (σ : Store M) (ω : Outside M C) where
-  -- an outside change of memory replaces bytes and notes nothing
-  abbrev pub changePassed : C → Past M → Past M
-  changePassed x p =
-      record {
-        world =
-            record {
-              core = p .world .core;
-              buffers = record { memory = ω .change x (p .world .buffers .memory); latches = p .world .buffers .latches };
-            };
-        sum = p .sum;
-        events = p .events;
-      }
+-- an outside change of memory replaces bytes and notes nothing
+abbrev pub changePassed : {M C : Type 0} → Outside M C → C → Past M → Past M
+changePassed ω x p =
+    record {
+      world =
+          record {
+            core = p .world .core;
+            buffers = record { memory = ω .change x (p .world .buffers .memory); latches = p .world .buffers .latches };
+          };
+      sum = p .sum;
+      events = p .events;
+    }
 
+-- by a clock κ of the core
+module _ {M C : Type 0} (κ : Core → Clock) (σ : Store M) (ω : Outside M C) where
   -- one entry; refusal 6 is judged by the sum
-  abbrev pub noteEntry : Entry σ C → Past M → EntryNoted M
-  noteEntry (portWrite port byte) p =
+  abbrev pub noteEntryBy : Entry σ C → Past M → EntryNoted M
+  noteEntryBy (portWrite port byte) p =
       notedUnless (accessRefusal (p .world .core) (p .sum) port) (writePassed port byte p) p
-  noteEntry (portRead port) p =
+  noteEntryBy (portRead port) p =
       notedUnless (accessRefusal (p .world .core) (p .sum) port) (withCore (readByte (p .world .core) .core) p) p
-  noteEntry (clockGrant n) p =
-      notedUnless (grantRefusal σ (p .world .core) (p .sum) (p .world .buffers) n) (grantPassed σ n p) p
-  noteEntry (otherGrant n b wrong) p =
-      notedUnless (grantRefusal σ (p .world .core) (p .sum) b n) (grantPassed σ n p) p
-  noteEntry (outsideChange x) p = record { number = 0; past = changePassed x p }
+  noteEntryBy (clockGrant n) p =
+      notedUnless (grantRefusal σ (p .world .core) (p .sum) (p .world .buffers) n) (grantPassedBy κ σ n p) p
+  noteEntryBy (otherGrant n b wrong) p =
+      notedUnless (grantRefusal σ (p .world .core) (p .sum) b n) (grantPassedBy κ σ n p) p
+  noteEntryBy (outsideChange x) p = record { number = 0; past = changePassed ω x p }
 
   -- a list of entries
-  unfoldable pub history : List (Entry σ C) → Past M → History M
-  history [] p = record { numbers = []; past = p }
-  history (e ∷ es) p =
+  unfoldable pub historyBy : List (Entry σ C) → Past M → History M
+  historyBy [] p = record { numbers = []; past = p }
+  historyBy (e ∷ es) p =
       record {
-        numbers = noteEntry e p .number ∷ history es (noteEntry e p .past) .numbers;
-        past = history es (noteEntry e p .past) .past;
+        numbers = noteEntryBy e p .number ∷ historyBy es (noteEntryBy e p .past) .numbers;
+        past = historyBy es (noteEntryBy e p .past) .past;
       }
+
+-- by the rules' clock
+module _ {M : Type 0} (σ : Store M) where
+  abbrev pub clockPassed : Past M → Past M
+  clockPassed p = clockPassedBy clockOf σ p
+
+  abbrev pub clocksPassed : ℕ → Past M → Past M
+  clocksPassed n p = clocksPassedBy clockOf σ n p
+
+  abbrev pub grantPassed : ℕ → Past M → Past M
+  grantPassed n p = grantPassedBy clockOf σ n p
+
+module _ {M C : Type 0} (σ : Store M) (ω : Outside M C) where
+  abbrev pub noteEntry : Entry σ C → Past M → EntryNoted M
+  noteEntry e p = noteEntryBy clockOf σ ω e p
+
+  abbrev pub history : List (Entry σ C) → Past M → History M
+  history es p = historyBy clockOf σ ω es p
 
 -- the history begins at power-on with nothing noted
 abbrev pub pastAtPowerOn : {M : Type 0} → M → List ℕ → Past M

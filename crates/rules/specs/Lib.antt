@@ -29,4 +29,5 @@ pub mod History
 pub mod Splitting
 pub mod Accounts
 pub mod Reached
+pub mod Recheck
 pub mod Opened

@@ -3,21 +3,21 @@
 use Rattle.rules.specs.Choice.{pick, firstOf, every, any, means, firstHit}
 use Rattle.rules.specs.Ports.{cycleOf, stepped}
 use Rattle.rules.specs.Blocks.{blockCount, finished}
-use Rattle.rules.specs.Slots.{waiting, busHeld, unmoved, slotLength}
+use Rattle.rules.specs.Slots.{waiting, busHeld, unmoved, slotLength, slotOf}
 use Rattle.rules.specs.Selection.{selects}
 use Rattle.rules.specs.Pending.{ask, asked, usedUp, pendingAfter, follows, validPending}
 use Rattle.rules.specs.Validity.{validPort, validReadback, restingSlot, validLength, runningSlot, validSlot, validProgress, validCore, valid}
 use Rattle.rules.specs.Commands.{enable, readingCommand, command}
 use Rattle.rules.specs.Registers.{wr3, register, parameter, carriedOut, effect}
 use Rattle.rules.specs.Readback.{statusByte, registerByte, after, seek, readByte}
-use Rattle.rules.specs.Clock.{movedAt, kindAt, slotEnd, clockEnd, slotClock, firstClock, clockOf}
+use Rattle.rules.specs.Clock.{movedAt, kindAt, slotEnd, clockEnd, slotClock, clockOf}
 use Rattle.rules.specs.Buffers.{placed, source, destination, byteAt, put}
-use Rattle.rules.specs.World.{buffersAfter, clocked}
+use Rattle.rules.specs.World.{buffersAfter, clockedBy}
 use Rattle.rules.specs.Refusals.{accessRefusal, lentRefusal, grantRefusal}
-use Rattle.rules.specs.Calls.{unlessRefused, writeReply, readReply, grant}
-use Rattle.rules.specs.Entries.{poked, run}
-use Rattle.rules.specs.History.{zeroing, writePassed, notedUnless, clocksPassed, history}
+use Rattle.rules.specs.Calls.{unlessRefused, writeReply, readReply, grantBy}
+use Rattle.rules.specs.Entries.{poked, runBy}
+use Rattle.rules.specs.History.{zeroing, writePassed, notedUnless, clocksPassedBy, historyBy}
 
 unfoldable pub opened : Unit {0}
-unfolding pick firstOf every any means firstHit cycleOf stepped blockCount finished waiting busHeld unmoved selects ask asked usedUp pendingAfter follows validPending validPort validReadback restingSlot validLength runningSlot validSlot validProgress validCore valid enable readingCommand command wr3 register parameter carriedOut effect statusByte registerByte after seek readByte slotLength movedAt kindAt slotEnd clockEnd slotClock firstClock clockOf source destination byteAt put buffersAfter clocked accessRefusal lentRefusal grantRefusal unlessRefused writeReply readReply grant poked run zeroing writePassed notedUnless clocksPassed history placed
+unfolding pick firstOf every any means firstHit cycleOf stepped blockCount finished waiting busHeld unmoved selects ask asked usedUp pendingAfter follows validPending validPort validReadback restingSlot validLength runningSlot validSlot validProgress validCore valid enable readingCommand command wr3 register parameter carriedOut effect statusByte registerByte after seek readByte slotLength slotOf movedAt kindAt slotEnd clockEnd slotClock clockOf source destination byteAt put buffersAfter clockedBy accessRefusal lentRefusal grantRefusal unlessRefused writeReply readReply grantBy poked runBy zeroing writePassed notedUnless clocksPassedBy historyBy placed
 opened = tt

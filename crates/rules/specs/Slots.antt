@@ -1,4 +1,4 @@
--- The transfer slot (document 01: slot): the one that begins, waiting in it, and who has the bus.
+-- The transfer slot (document 01: slot): the one that begins or runs, waiting in it, and who has the bus.
 -- Assumes nothing.
 use Prim.Native.Nat.{ℕ, _+_, _*_}
 use mathlib.Core.Bool.{Bool, false, not}
@@ -25,6 +25,10 @@ newSlot c =
       length = slotLength (c .control .prescaler) (c .a .cycle + c .b .cycle);
       burst = c .control .burst;
     }
+
+-- the slot that runs, or that the next clock begins
+unfoldable pub slotOf : Core → Slot
+slotOf c = pick (eqb (c .slot .elapsed) 0) (newSlot c) (c .slot)
 
 -- it waits in a burst slot: the bus time has elapsed and the length has not
 unfoldable pub waiting : Slot → Bool

@@ -47,8 +47,7 @@ pub record IsSpan (c : Core) (budget : ℕ) (x : Span) : Type 0 where
   pub none : x .clocks ≡ 0 → x .moves ≡ false
   pub core : ticks (x .clocks) c ≡ x .next
 
--- the next clock ends its slot: of an enabled device it leaves no clock of a slot elapsed. Also the clock that finds the
--- block finished where a slot would begin
+-- the next clock ends its slot: of an enabled device it leaves no clock of a slot elapsed
 abbrev pub endsSlot : Core → Bool
 endsSlot c = every (c .enabled ∷ eqb (clockOf c .next .slot .elapsed) 0 ∷ [])
 

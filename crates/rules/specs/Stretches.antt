@@ -5,11 +5,10 @@ use Prim.Native.Nat.{ℕ, _+_, _-_}
 use mathlib.Core.Path.{_≡_}
 use mathlib.Core.Bool.{Bool, true, false}
 use mathlib.Core.List.{[], _∷_}
-use lib.Dec.{eqb, ltb}
+use lib.Dec.{ltb}
 use Rattle.rules.specs.Choice.{pick, every}
 use Rattle.rules.specs.Parts.{withSlot}
-use Rattle.rules.specs.Blocks.{finished}
-use Rattle.rules.specs.Slots.{newSlot}
+use Rattle.rules.specs.Slots.{slotOf}
 use Rattle.rules.specs.Clock.{cpuClock, countedBy, kindAt}
 use Rattle.rules.specs.Buffers.{Store, Buffers}
 use Rattle.rules.specs.World.{system, clocked}
@@ -19,13 +18,6 @@ use Rattle.rules.specs.declared.Core.{Core}
 
 unfoldable pub least : ℕ → ℕ → ℕ
 least x y = pick (ltb x y) x y
-
--- the slot that runs, or that the next clock begins
-unfoldable pub slotOf : Core → Slot
-slotOf c = pick (eqb (c .slot .elapsed) 0) (newSlot c) (c .slot)
-
-abbrev pub begun : Core → Core
-begun c = withSlot (slotOf c) c
 
 -- the clocks left of the slot, the last one included; one where its length has gone by
 unfoldable pub slotRest : Slot → ℕ
@@ -43,13 +35,13 @@ quiet n s = every (ltb 0 n ∷ ltb n (stretchRest s) ∷ [])
 abbrev pub elapsedBy : ℕ → Slot → Slot
 elapsedBy n s = record { elapsed = s .elapsed + n; bus = s .bus; length = s .length; burst = s .burst }
 
--- clocks on which nothing happens, as single clocks: of an enabled core, where the block is not finished if a slot begins,
--- those that end before the stretch does change the slot, whose figures are fixed if it begins, and the count of their kind;
--- those of a disabled core change the processor's count alone
+-- clocks on which nothing happens, as single clocks: of an enabled core, those that end before the stretch does change the
+-- slot, whose figures are fixed if it begins, and the count of their kind; those of a disabled core change the processor's
+-- count alone
 pub record WaitsAreClocks {M : Type 0} (σ : Store M) : Type 0 where
   pub waits :
       (n : ℕ) (c : Core) (b : Buffers M) (k : Clocks)
-      → c .enabled ≡ true → (c .slot .elapsed ≡ 0 → finished (c .block) ≡ false) → quiet n (slotOf c) ≡ true
+      → c .enabled ≡ true → quiet n (slotOf c) ≡ true
       → clocked σ n (system c b k) ≡ system (withSlot (elapsedBy n (slotOf c)) c) b (countedBy (kindAt (slotOf c .elapsed + n) (withSlot (elapsedBy n (slotOf c)) c)) n k)
   pub idle :
       (n : ℕ) (c : Core) (b : Buffers M) (k : Clocks)

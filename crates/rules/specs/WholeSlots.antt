@@ -2,12 +2,12 @@
 -- Assumes nothing.
 use Prim.Native.Nat.{ℕ, zero, suc, _+_, _*_, _-_, _/_, _≤_, _<_}
 use mathlib.Core.Path.{_≡_}
-use mathlib.Core.Bool.{Bool, true, not}
+use mathlib.Core.Bool.{Bool, true}
 use mathlib.Core.List.{[], _∷_}
 use lib.Dec.{eqb, ltb}
 use Rattle.rules.specs.Choice.{pick, every}
 use Rattle.rules.specs.Ports.{advancedBy}
-use Rattle.rules.specs.Blocks.{blockCount, finished}
+use Rattle.rules.specs.Blocks.{blockCount, bytesLeft}
 use Rattle.rules.specs.Facts.{Kept}
 use Rattle.rules.specs.Slots.{newSlot}
 use Rattle.rules.specs.Clock.{busClock, countedBy, afterBytes, waitKind, slotEnd}
@@ -18,15 +18,13 @@ use Rattle.rules.specs.declared.Slot.{Slot}
 use Rattle.rules.specs.declared.Clocks.{Clocks}
 use Rattle.rules.specs.declared.Core.{Core}
 
--- at the start of a slot of some clocks: enabled, no clock elapsed, the block not finished
+-- at the start of a slot of some clocks: enabled, no clock elapsed
 unfoldable pub atSlotStart : Core → Bool
-atSlotStart c =
-    every (c .enabled ∷ eqb (c .slot .elapsed) 0 ∷ not (finished (c .block)) ∷ ltb 0 (newSlot c .length) ∷ [])
+atSlotStart c = every (c .enabled ∷ eqb (c .slot .elapsed) 0 ∷ ltb 0 (newSlot c .length) ∷ [])
 
--- the whole slots that a budget of clocks has room for, up to the block's end: none but at the start of one
+-- the whole slots that a budget of clocks has room for, and the block bytes: none but at the start of one
 unfoldable pub slotsWithin : Core → ℕ → ℕ
-slotsWithin c budget =
-    pick (atSlotStart c) (least (budget / newSlot c .length) (blockCount (c .block) - c .block .counter)) 0
+slotsWithin c budget = pick (atSlotStart c) (least (budget / newSlot c .length) (bytesLeft (c .block))) 0
 
 -- the core after k bytes, one at least
 abbrev pub movedBy : ℕ → Core → Core

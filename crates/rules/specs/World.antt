@@ -4,7 +4,7 @@ use Prim.Native.Nat.{ℕ, zero, suc}
 use mathlib.Core.Bool.{Bool}
 use mathlib.Core.Option.{Option, none, some}
 use Rattle.rules.specs.Choice.{pick}
-use Rattle.rules.specs.Clock.{Kind, clockOf, counted}
+use Rattle.rules.specs.Clock.{Kind, Clock, clockOf, counted}
 use Rattle.rules.specs.Buffers.{Store, Buffers, source, destination, byteAt, transfer}
 use Rattle.rules.specs.declared.Place.{Place}
 use Rattle.rules.specs.declared.Clocks.{Clocks}
@@ -42,31 +42,47 @@ module _ {M : Type 0} (σ : Store M) where
   unfoldable pub buffersAfter : Bool → Place → Place → Buffers M → Buffers M
   buffersAfter moves from to b = pick moves (transfer σ from to b) b
 
+-- what follows from a clock κ of the core, the rules' own or another
+module _ {M : Type 0} (κ : Core → Clock) (σ : Store M) where
   -- one clock
-  abbrev pub step : World M → World M
-  step w =
+  abbrev pub stepBy : World M → World M
+  stepBy w =
       record {
-        core = clockOf (w .core) .next;
-        buffers = buffersAfter (clockOf (w .core) .moves) (source (w .core)) (destination (w .core)) (w .buffers);
+        core = κ (w .core) .next;
+        buffers = buffersAfter σ (κ (w .core) .moves) (source (w .core)) (destination (w .core)) (w .buffers);
       }
 
   -- the note of one clock
-  abbrev pub note : World M → Note
-  note w =
+  abbrev pub noteBy : World M → Note
+  noteBy w =
       record {
-        kind = clockOf (w .core) .kind;
+        kind = κ (w .core) .kind;
         move =
-            pick (clockOf (w .core) .moves)
+            pick (κ (w .core) .moves)
             (some (record { from = source (w .core); to = destination (w .core); byte = byteAt σ (source (w .core)) (w .buffers) }))
             none;
-        zeroed = clockOf (w .core) .zeroed;
+        zeroed = κ (w .core) .zeroed;
       }
 
   -- one clock, counted
-  abbrev pub stepCounted : System M → System M
-  stepCounted s = record { world = step (s .world); clocks = counted (clockOf (s .world .core) .kind) (s .clocks) }
+  abbrev pub stepCountedBy : System M → System M
+  stepCountedBy s = record { world = stepBy (s .world); clocks = counted (κ (s .world .core) .kind) (s .clocks) }
 
   -- n clocks
-  unfoldable pub clocked : ℕ → System M → System M
-  clocked zero s = s
-  clocked (suc n) s = stepCounted (clocked n s)
+  unfoldable pub clockedBy : ℕ → System M → System M
+  clockedBy zero s = s
+  clockedBy (suc n) s = stepCountedBy (clockedBy n s)
+
+-- by the rules' clock
+module _ {M : Type 0} (σ : Store M) where
+  abbrev pub step : World M → World M
+  step w = stepBy clockOf σ w
+
+  abbrev pub note : World M → Note
+  note w = noteBy clockOf σ w
+
+  abbrev pub stepCounted : System M → System M
+  stepCounted s = stepCountedBy clockOf σ s
+
+  abbrev pub clocked : ℕ → System M → System M
+  clocked n s = clockedBy clockOf σ n s

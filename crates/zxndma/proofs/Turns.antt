@@ -9,12 +9,12 @@ use mathlib.Core.List.{List}
 use Rattle.rules.specs.Parts.{withSlot}
 use Rattle.rules.specs.Validity.{total, most64}
 use Rattle.rules.specs.Facts.{InRange}
-use Rattle.rules.specs.Slots.{newSlot}
+use Rattle.rules.specs.Slots.{newSlot, slotOf}
 use Rattle.rules.specs.Clock.{cpuClock, afterBytes, kindAt, slotEnd}
 use Rattle.rules.specs.Buffers.{flat}
 use Rattle.rules.specs.World.{System, system, buffersAfter, clocked}
 use Rattle.rules.specs.Spans.{kindOf, IsSpan}
-use Rattle.rules.specs.Stretches.{slotOf, elapsedBy}
+use Rattle.rules.specs.Stretches.{elapsedBy}
 use Rattle.rules.specs.WholeSlots.{slotsWithin, slotsCounted, slotsPassed}
 use Rattle.rules.specs.Turns.{Ready, Passed}
 use Rattle.rules.specs.Refusals.{grantRefusal}
@@ -25,9 +25,8 @@ use Rattle.rules.specs.declared.Core.{Core}
 use Rattle.rules.specs.declared.Span.{Span}
 use Rattle.rules.proofs.Validity.{parts-core}
 use Rattle.rules.proofs.Stretches.{waits-are-clocks}
-use Rattle.rules.proofs.WholeSlots.{valid-fresh}
 use Rattle.rules.proofs.Turns.{ready-run, ready-starts, turns-are-clocks, Going, going-start}
-use Rattle.rules.proofs.Calls.{granted, valid-device, valid-parts}
+use Rattle.rules.proofs.Calls.{granted, valid-device}
 use Rattle.clocking.specs.Answers.{borrowed, roomFor, waitAnswer, countedWithin, slotsCountedWithin, BytesMoved}
 use Rattle.clocking.specs.declared.stretch.Wait.{Wait}
 use Rattle.clocking.proofs.Counts.{counted-all, slots-counted-all}
@@ -117,9 +116,8 @@ module _ (m l : List ℕ) (c : Core) (k : Clocks) (n : ℕ) (e : grantRefusal fl
       → {d : Device} → d ≡ device (withSlot (w .slot) c) (countedWithin (kindAt (w .slot .elapsed) (withSlot (w .slot) c)) n k)
       → systemOf d m l ≡ clocked flat n (made m l c k)
   wait-spent on f q x =
-      let g = granted flat c (total k) (borrowed m l) n e in
       let t = wait-facts c n f q in
       ap (λ (y : Device). systemOf y m l) x
       ∙ ap (λ (s : Slot). made m l (withSlot s c) (countedWithin (kindAt (s .elapsed) (withSlot s c)) n k)) (t .1)
       ∙ ap (made m l (withSlot (elapsedBy n (slotOf c)) c)) (counted-all _ n k room)
-      ∙ sym (waits-are-clocks flat .waits n c (borrowed m l) k on (valid-fresh c (valid-parts c (total k) (g .state)) on) (t .0))
+      ∙ sym (waits-are-clocks flat .waits n c (borrowed m l) k on (t .0))

@@ -6,15 +6,12 @@ use borrow.Author.Needs.{needs}
 use Rattle.clocking.proofs.slots.at_slot_start.Statement.{statement}
 use Rattle.clocking.proofs.slots.at_slot_start.Tie as tie
 
-is-finished-requires : tie.Need-is-finished-requires
-is-finished-requires c κs = search needs
-
 new-slot-requires : tie.Need-new-slot-requires
 new-slot-requires c κs = search needs
 
 returns : tie.Need-returns
 unfolding atSlotStart
-returns c = simp (strict, c .before .before .before .before .is-finished .ensures, c .before .before .before .new-slot .ensures)
+returns c = simp (strict, c .before .before .before .new-slot .ensures)
 
 pub at-slot-start-spec : {M : Type 1} → statement M
-at-slot-start-spec = tie.close (tie.spec is-finished-requires new-slot-requires returns)
+at-slot-start-spec = tie.close (tie.spec new-slot-requires returns)

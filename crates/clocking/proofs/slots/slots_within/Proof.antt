@@ -1,8 +1,8 @@
--- At the start of a slot the length is not 0 and the counter is below the block count.
+-- At the start of a slot the length is not 0.
 -- Assumes nothing.
 use Rattle.rules.specs.Choice.{pick}
 use Rattle.rules.specs.WholeSlots.{slotsWithin}
-use Rattle.clocking.proofs.WholeSlots.{length-some, counter-below, slots-at-start}
+use Rattle.clocking.proofs.WholeSlots.{length-some, slots-at-start}
 use borrow.Author.Needs.{needs}
 use Rattle.clocking.proofs.slots.slots_within.Statement.{statement}
 use Rattle.clocking.proofs.slots.slots_within.Tie as tie
@@ -16,32 +16,27 @@ new-slot-requires c κs = search needs
 cast-length : tie.Need-cast-length
 cast-length c = search needs
 
-block-count-requires : tie.Need-block-count-requires
-block-count-requires c κs = search needs
+bytes-left-requires : tie.Need-bytes-left-requires
+bytes-left-requires c κs = search needs
 
 div-fitting : tie.Need-div-fitting
 div-fitting c =
     let at-slot = c .before .before .before in
     length-some _ (at-slot .before .before .at-slot-start .ensures) (at-slot .before .if1 .taken) (at-slot .new-slot .ensures)
 
-sub-left : tie.Need-sub-left
-sub-left c =
-    let at-test = c .before .before .before .before .before in
-    counter-below _ (at-test .before .at-slot-start .ensures) (at-test .if1 .taken) (c .before .block-count .ensures)
-
 least-requires : tie.Need-least-requires
 least-requires c κs = search needs
 
 returns : tie.Need-returns
 returns c =
-    let at-count = c .before .before in
-    let at-slot = at-count .before .before .before in
+    let at-left = c .before in
+    let at-slot = at-left .before .before .before in
     slots-at-start _
     (at-slot .before .before .at-slot-start .ensures)
     (at-slot .before .if1 .taken)
     _
     (at-slot .new-slot .ensures)
-    (at-count .block-count .ensures)
+    (at-left .bytes-left .ensures)
     (c .least .ensures)
 
 returns-2 : tie.Need-returns-2
@@ -55,9 +50,8 @@ slots-within-spec =
     at-slot-start-requires
     new-slot-requires
     cast-length
-    block-count-requires
+    bytes-left-requires
     div-fitting
-    sub-left
     least-requires
     returns
     returns-2)

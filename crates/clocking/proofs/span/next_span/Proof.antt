@@ -1,8 +1,8 @@
--- Each answer is the law of its case: no room, a disabled device, a finished block, a slot.
+-- Each answer is the law of its case: no room, a disabled device, a slot.
 -- Assumes nothing.
 use mathlib.Core.Path.{sym, _∙_}
 use borrow.Author.Tests.{not-true, not-false}
-use Rattle.clocking.proofs.Spans.{positive, none-answers, idle-answers, stop-answers, may-run}
+use Rattle.clocking.proofs.Spans.{none-answers, idle-answers, may-run}
 use borrow.Author.Needs.{needs}
 use Rattle.clocking.proofs.span.next_span.Statement.{statement}
 use Rattle.clocking.proofs.span.next_span.Tie as tie
@@ -22,41 +22,13 @@ cpu-span-requires-2 c κs = search needs
 returns-2 : tie.Need-returns-2
 returns-2 c = rw (← c .before .before .before .before .room-for .ensures) (idle-answers _ _ (not-true _ (c .before .if2 .taken)) (c .cpu-span2 .ensures))
 
-starts-finished-requires : tie.Need-starts-finished-requires
-starts-finished-requires c κs = search needs
-
-stop-requires : tie.Need-stop-requires
-stop-requires c κs = search needs
-
-cpu-span-requires-3 : tie.Need-cpu-span-requires-3
-cpu-span-requires-3 c κs = search needs
-
-returns-3 : tie.Need-returns-3
-returns-3 c =
-    let at-stop = c .before in
-    let at-third = at-stop .before in
-    let at-second = at-third .before .before in
-    let at-first = at-second .before .before in
-    rw (← at-first .before .room-for .ensures)
-    (stop-answers _ _
-    (not-false _ (at-second .if2 .left))
-    (sym (at-third .before .starts-finished .ensures) ∙ at-third .if3 .taken)
-    (positive (at-first .if1 .left))
-    (at-stop .stop .ensures)
-    (c .cpu-span3 .ensures))
-
 slot-span-requires : tie.Need-slot-span-requires
 slot-span-requires c κs =
-    let at-second = c .before .before in
-    let at-first = at-second .before .before in
-    may-run _ _ _
-    (at-first .before .room-for .ensures)
-    (at-first .if1 .left)
-    (not-false _ (at-second .if2 .left))
-    (sym (c .before .starts-finished .ensures) ∙ c .if3 .left)
+    let at-first = c .before .before in
+    may-run _ _ _ (at-first .before .room-for .ensures) (at-first .if1 .left) (not-false _ (c .if2 .left))
 
-returns-4 : tie.Need-returns-4
-returns-4 c = rw (← c .before .before .before .before .before .before .room-for .ensures) (c .slot-span .ensures)
+returns-3 : tie.Need-returns-3
+returns-3 c = rw (← c .before .before .before .before .room-for .ensures) (c .slot-span .ensures)
 
 pub next-span-spec : {M : Type 1} → statement M
 next-span-spec =
@@ -67,9 +39,5 @@ next-span-spec =
     returns
     cpu-span-requires-2
     returns-2
-    starts-finished-requires
-    stop-requires
-    cpu-span-requires-3
-    returns-3
     slot-span-requires
-    returns-4)
+    returns-3)

@@ -1,6 +1,6 @@
 -- Each branch is its choice.
 -- Assumes nothing.
-use Rattle.rules.specs.Stretches.{slotOf}
+use Rattle.rules.specs.Slots.{slotOf}
 use Rattle.rules.specs.Choice.{pick}
 use borrow.Author.Tests.{eq-eqb, ne-eqb}
 use borrow.Author.Needs.{needs}

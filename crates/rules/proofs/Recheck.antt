@@ -1,0 +1,267 @@
+-- The recheck hits nowhere. A clock, of whatever core, leaves one at which it does not: within a slot some clock has elapsed,
+-- and a slot's end looks at the block itself. So it could hit on the first clock of a grant alone, and there the core is
+-- valid. Where it does not hit, the two clocks are one, and with them grants, runs and histories.
+-- Assumes nothing.
+use Prim.Native.Nat.{ℕ, zero, suc, _+_, _<_}
+use native.Mathlib.Omega.{arith}
+use mathlib.Core.Path.{_≡_, refl, sym, _∙_, ap}
+use mathlib.Core.Bool.{Bool, true, false}
+use mathlib.Core.List.{List, [], _∷_}
+use lib.Dec.{eqb, ltb}
+use borrow.Author.Tests.{eqb-true, eqb-false, eq-eqb, ne-eqb, ltb-true}
+use Rattle.rules.specs.Choice.{pick, every}
+use Rattle.rules.specs.Parts.{withSlot}
+use Rattle.rules.specs.Blocks.{blockCount, finished}
+use Rattle.rules.specs.Slots.{newSlot}
+use Rattle.rules.specs.Validity.{validCore, total}
+use Rattle.rules.specs.Facts.{ValidParts}
+use Rattle.rules.specs.Clock.{counted, Clock, clock, movedAt, Ending, slotEnd, clockEnd, slotClock, begun, clockOf}
+use Rattle.rules.specs.Buffers.{Store, Buffers, source, destination}
+use Rattle.rules.specs.World.{System, buffersAfter, stepCountedBy, clockedBy, clocked}
+use Rattle.rules.specs.Refusals.{grantRefusal}
+use Rattle.rules.specs.Calls.{Answered, Answer, accepted, refused, grantNumber, grantBy, grant}
+use Rattle.rules.specs.Entries.{Outside, Entry, portWrite, portRead, clockGrant, otherGrant, outsideChange, besideBuffers, Run, enterBy, enter, runBy, run, systemAtPowerOn}
+use Rattle.rules.specs.History.{Past, EntryNoted, History, notedUnless, clockPassedBy, clocksPassedBy, clocksPassed, noteEntryBy, noteEntry, historyBy, history}
+use Rattle.rules.specs.Recheck.{firstClockWithRecheck, clockWithRecheck, recheckHits, RecheckNeverHits, inLastWait, RecheckNearest, RecheckIdle}
+use Rattle.rules.specs.Opened.{opened}
+use Rattle.rules.specs.declared.Core.{Core}
+use Rattle.rules.proofs.Choice.{clash, pick-true, pick-false, pick-cases, either, all-true, true-all, every-stop, every-stop-later}
+use Rattle.rules.proofs.Blocks.{reloaded-unfinished}
+use Rattle.rules.proofs.Validity.{core-parts, progress-facts}
+use Rattle.rules.proofs.Slots.{unmoved-first}
+use Rattle.rules.proofs.Stretches.{clock-first, clock-later}
+use Rattle.rules.proofs.World.{clocked-zero, clocked-suc}
+use Rattle.rules.proofs.Calls.{granted, valid-parts}
+use Rattle.rules.proofs.Entries.{reached-valid}
+
+-- ---- where it does not hit
+
+off-unhit : (c : Core) → c .enabled ≡ false → recheckHits c ≡ false
+unfolding recheckHits
+off-unhit c e = every-stop _ _ e
+
+inside-unhit : (c : Core) → (c .slot .elapsed ≡ 0 → ⊥) → recheckHits c ≡ false
+unfolding recheckHits
+inside-unhit c e = every-stop-later _ _ (every-stop _ _ (ne-eqb _ _ e))
+
+unfinished-unhit : (c : Core) → finished (c .block) ≡ false → recheckHits c ≡ false
+unfolding recheckHits
+unfinished-unhit c e = every-stop-later _ _ (every-stop-later _ _ (every-stop _ _ e))
+
+-- not where the block is unfinished as a slot begins
+start-unhit : (c : Core) → (c .enabled ≡ true → c .slot .elapsed ≡ 0 → finished (c .block) ≡ false) → recheckHits c ≡ false
+start-unhit c f =
+    either (c .enabled)
+    (λ on. either (eqb (c .slot .elapsed) 0) (λ z. unfinished-unhit c (f on (eqb-true _ _ z))) (λ z. inside-unhit c (eqb-false _ _ z)))
+    (off-unhit c)
+
+-- and of a valid core this is so
+parts-unhit : (c : Core) → ValidParts c → recheckHits c ≡ false
+parts-unhit c v = start-unhit c (λ on e. progress-facts _ _ _ (v .progress) on (unmoved-first (c .slot) e))
+
+valid-unhit : (c : Core) → validCore c ≡ true → recheckHits c ≡ false
+valid-unhit c v = parts-unhit c (core-parts c v)
+
+-- the slot's end has looked at the block itself: unfinished, begun again with some bytes, or disabled
+end-unhit : (c : Core) → recheckHits (slotEnd c .core) ≡ false
+unfolding slotEnd
+end-unhit c =
+    pick-cases (λ (x : Ending). recheckHits (x .core) ≡ false) _ _ _
+    (λ e.
+    pick-cases (λ (x : Ending). recheckHits (x .core) ≡ false) _ _ _
+    (λ (d : every (c .control .restart ∷ ltb 0 (blockCount (c .block)) ∷ []) ≡ true).
+    unfinished-unhit _ (reloaded-unfinished (c .block) (ltb-true _ _ (all-true _ d .1 .0))))
+    (λ d. off-unhit _ refl))
+    (λ e. unfinished-unhit _ e)
+
+-- within a slot some clock has elapsed
+clock-end-unhit : (n : ℕ) (c : Core) → 0 < n → recheckHits (clockEnd n c .core) ≡ false
+unfolding clockEnd
+clock-end-unhit n c h =
+    pick-cases (λ (x : Ending). recheckHits (x .core) ≡ false) _ _ _
+    (λ e. inside-unhit _ (λ z. omega (arith, z, h)))
+    (λ e. end-unhit c)
+
+clock-unhit : (c : Core) → recheckHits (clockOf c .next) ≡ false
+unfolding clockOf slotClock
+clock-unhit c =
+    pick-cases (λ (x : Clock). recheckHits (x .next) ≡ false) _ _ _
+    (λ on. clock-end-unhit (c .slot .elapsed + 1) (movedAt (c .slot .elapsed + 1) (begun c)) (omega arith))
+    (off-unhit c)
+
+clocked-unhit : {M : Type 0} (σ : Store M) (s : System M) (n : ℕ) → recheckHits (s .world .core) ≡ false → recheckHits (clocked σ n s .world .core) ≡ false
+clocked-unhit σ s zero h = ap (λ (t : System _). recheckHits (t .world .core)) (clocked-zero σ s) ∙ h
+clocked-unhit σ s (suc n) h = ap (λ (t : System _). recheckHits (t .world .core)) (clocked-suc σ n s) ∙ clock-unhit (clocked σ n s .world .core)
+
+-- ---- the two clocks
+
+off-same : (c : Core) → c .enabled ≡ false → clockWithRecheck c ≡ clockOf c
+unfolding clockWithRecheck clockOf
+off-same c e = pick-false _ _ _ e ∙ sym (pick-false _ _ _ e)
+
+first-same : (c : Core) → c .enabled ≡ true → c .slot .elapsed ≡ 0 → finished (c .block) ≡ false → clockWithRecheck c ≡ clockOf c
+unfolding clockWithRecheck firstClockWithRecheck
+first-same c on z u =
+    pick-true _ _ _ on
+    ∙ pick-true _ _ _ (eq-eqb _ _ z)
+    ∙ pick-false _ _ _ u
+    ∙ ap (λ (n : ℕ). slotClock (n + 1) (withSlot (newSlot c) c)) (sym z)
+    ∙ sym (clock-first c on z)
+
+later-same : (c : Core) → c .enabled ≡ true → (c .slot .elapsed ≡ 0 → ⊥) → clockWithRecheck c ≡ clockOf c
+unfolding clockWithRecheck
+later-same c on z = pick-true _ _ _ on ∙ pick-false _ _ _ (ne-eqb _ _ z) ∙ sym (clock-later c on z)
+
+clocks-same : (c : Core) → recheckHits c ≡ false → clockWithRecheck c ≡ clockOf c
+unfolding recheckHits
+clocks-same c h =
+    either (c .enabled)
+    (λ on.
+    either (eqb (c .slot .elapsed) 0)
+    (λ z.
+    either (finished (c .block))
+    (λ d. clash (sym h ∙ true-all (c .enabled ∷ eqb (c .slot .elapsed) 0 ∷ finished (c .block) ∷ []) (on, (z, (d, tt)))))
+    (first-same c on (eqb-true _ _ z)))
+    (λ z. later-same c on (eqb-false _ _ z)))
+    (off-same c)
+
+-- ---- grants
+
+module _ {M : Type 0} (σ : Store M) where
+  step-same : (s : System M) → clockWithRecheck (s .world .core) ≡ clockOf (s .world .core) → stepCountedBy clockWithRecheck σ s ≡ stepCountedBy clockOf σ s
+  step-same s e =
+      λ i.
+      record {
+        world =
+            record {
+              core = e i .next;
+              buffers = buffersAfter σ (e i .moves) (source (s .world .core)) (destination (s .world .core)) (s .world .buffers);
+            };
+        clocks = counted (e i .kind) (s .clocks);
+      }
+
+  clocked-same : (n : ℕ) (s : System M) → recheckHits (s .world .core) ≡ false → clockedBy clockWithRecheck σ n s ≡ clocked σ n s
+  unfolding clockedBy
+  clocked-same zero s h = refl
+  clocked-same (suc n) s h =
+      ap (stepCountedBy clockWithRecheck σ) (clocked-same n s h)
+      ∙ step-same (clocked σ n s) (clocks-same (clocked σ n s .world .core) (clocked-unhit σ s n h))
+
+  grants-same : (s : System M) (n : ℕ) → grantBy clockWithRecheck σ s n ≡ grant σ s n
+  unfolding grantBy
+  grants-same s n =
+      either (eqb (grantNumber σ s n) 0)
+      (λ e.
+      let v = valid-parts (s .world .core) (total (s .clocks)) (granted σ _ _ _ n (eqb-true _ _ e) .state) in
+      ap (λ (t : System M). pick (eqb (grantNumber σ s n) 0) (record { answered = accepted 0; system = t }) (record { answered = refused (grantNumber σ s n); system = s }))
+      (clocked-same n s (parts-unhit (s .world .core) v)))
+      (λ e. pick-false _ _ _ e ∙ sym (pick-false _ _ _ e))
+
+-- ---- runs
+
+module _ {M C : Type 0} (σ : Store M) (ω : Outside M C) where
+  entry-same : (e : Entry σ C) (s : System M) → enterBy clockWithRecheck σ ω e s ≡ enter σ ω e s
+  entry-same (portWrite port byte) s = refl
+  entry-same (portRead port) s = refl
+  entry-same (clockGrant n) s = grants-same σ s n
+  entry-same (otherGrant n b wrong) s =
+      ap (λ (a : Answer M). record { answered = a .answered; system = besideBuffers (s .world .buffers) (a .system) })
+      (grants-same σ (besideBuffers b s) n)
+  entry-same (outsideChange x) s = refl
+
+  -- the run of a list by its first answer
+  abbrev behind : Answered → Run M → Run M
+  behind a r = record { answers = a ∷ r .answers; system = r .system }
+
+  runs-same : (es : List (Entry σ C)) (s : System M) → runBy clockWithRecheck σ ω es s ≡ run σ ω es s
+  unfolding runBy
+  runs-same [] s = refl
+  runs-same (e ∷ es) s =
+      ap (λ (a : Answer M). behind (a .answered) (runBy clockWithRecheck σ ω es (a .system))) (entry-same e s)
+      ∙ ap (behind (enter σ ω e s .answered)) (runs-same es (enter σ ω e s .system))
+
+-- ---- histories
+
+module _ {M : Type 0} (σ : Store M) where
+  passed-unhit : (n : ℕ) (p : Past M) → recheckHits (p .world .core) ≡ false → recheckHits (clocksPassed σ n p .world .core) ≡ false
+  unfolding clocksPassedBy
+  passed-unhit zero p h = h
+  passed-unhit (suc n) p h = clock-unhit (clocksPassed σ n p .world .core)
+
+  pass-same : (p : Past M) → clockWithRecheck (p .world .core) ≡ clockOf (p .world .core) → clockPassedBy clockWithRecheck σ p ≡ clockPassedBy clockOf σ p
+  pass-same p e = ap (λ (x : Clock). clockPassedBy (λ c. x) σ p) e
+
+  passed-same : (n : ℕ) (p : Past M) → recheckHits (p .world .core) ≡ false → clocksPassedBy clockWithRecheck σ n p ≡ clocksPassed σ n p
+  unfolding clocksPassedBy
+  passed-same zero p h = refl
+  passed-same (suc n) p h =
+      ap (clockPassedBy clockWithRecheck σ) (passed-same n p h)
+      ∙ pass-same (clocksPassed σ n p) (clocks-same (clocksPassed σ n p .world .core) (passed-unhit n p h))
+
+  -- a refused grant passes no clock, and an accepted one is of a valid core
+  noted-same : (p q r : Past M) (b : Buffers M) (n : ℕ) → (recheckHits (p .world .core) ≡ false → q ≡ r) → notedUnless (grantRefusal σ (p .world .core) (p .sum) b n) q p ≡ notedUnless (grantRefusal σ (p .world .core) (p .sum) b n) r p
+  unfolding notedUnless
+  noted-same p q r b n f =
+      either (eqb (grantRefusal σ (p .world .core) (p .sum) b n) 0)
+      (λ e.
+      let v = valid-parts (p .world .core) (p .sum) (granted σ _ _ b n (eqb-true _ _ e) .state) in
+      ap (λ (x : Past M). notedUnless (grantRefusal σ (p .world .core) (p .sum) b n) x p) (f (parts-unhit (p .world .core) v)))
+      (λ e.
+      ap (λ (x : Past M). record { number = grantRefusal σ (p .world .core) (p .sum) b n; past = x })
+      (pick-false _ _ _ e ∙ sym (pick-false _ _ _ e)))
+
+module _ {M C : Type 0} (σ : Store M) (ω : Outside M C) where
+  note-same : (e : Entry σ C) (p : Past M) → noteEntryBy clockWithRecheck σ ω e p ≡ noteEntry σ ω e p
+  note-same (portWrite port byte) p = refl
+  note-same (portRead port) p = refl
+  note-same (clockGrant n) p = noted-same σ p _ _ (p .world .buffers) n (λ h. passed-same σ n (record { world = p .world; sum = p .sum + n; events = p .events }) h)
+  note-same (otherGrant n b wrong) p = noted-same σ p _ _ b n (λ h. passed-same σ n (record { world = p .world; sum = p .sum + n; events = p .events }) h)
+  note-same (outsideChange x) p = refl
+
+  -- the history of a list by its first number
+  abbrev after : ℕ → History M → History M
+  after n h = record { numbers = n ∷ h .numbers; past = h .past }
+
+  histories-same : (es : List (Entry σ C)) (p : Past M) → historyBy clockWithRecheck σ ω es p ≡ history σ ω es p
+  unfolding historyBy
+  histories-same [] p = refl
+  histories-same (e ∷ es) p =
+      ap (λ (x : EntryNoted M). after (x .number) (historyBy clockWithRecheck σ ω es (x .past))) (note-same e p)
+      ∙ ap (after (noteEntry σ ω e p .number)) (histories-same es (noteEntry σ ω e p .past))
+
+-- ---- the claims
+
+pub recheck-never-hits : RecheckNeverHits
+recheck-never-hits =
+    record {
+      valid = valid-unhit;
+      granted = λ σ s n v. clocked-unhit σ s n (valid-unhit (s .world .core) v);
+      clock = clock-unhit;
+      reached =
+          λ M C σ ω m l es n b.
+          let k = reached-valid σ ω m l es b in
+          clocked-unhit σ (run σ ω es (systemAtPowerOn m l) .system) n (parts-unhit _ (k .core .valid));
+    }
+
+pub recheck-nearest : RecheckNearest
+unfolding opened recheckHits
+recheck-nearest =
+    record {
+      enable = refl;
+      valid = valid-so;
+      slotEnd = end-so;
+      hits = refl;
+      access = λ sum port. refl;
+      grant = λ sum memory latches n. refl;
+    }
+  where
+    valid-so : (restart : Bool) → validCore (inLastWait restart) ≡ true
+    valid-so true = refl
+    valid-so false = refl
+
+    end-so : (restart : Bool) → recheckHits (clockOf (inLastWait restart) .next) ≡ false
+    end-so true = refl
+    end-so false = refl
+
+pub recheck-idle : RecheckIdle
+recheck-idle = record { clock = clocks-same; grants = grants-same; runs = runs-same; histories = histories-same }

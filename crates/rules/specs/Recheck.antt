@@ -1,0 +1,87 @@
+-- The recheck: document 01's look at the block on a slot's first clock, which the rules' clock does without. The clock that
+-- has it, and that no call could ever tell the two apart.
+-- Assumes nothing.
+use Prim.Native.Nat.{ℕ, _+_}
+use mathlib.Core.Path.{_≡_}
+use mathlib.Core.Bool.{Bool, true, false}
+use mathlib.Core.List.{List, [], _∷_}
+use mathlib.Core.Option.{none}
+use lib.Dec.{eqb}
+use Rattle.rules.specs.Choice.{pick, every}
+use Rattle.rules.specs.Bytes.{AreBytes}
+use Rattle.rules.specs.Parts.{withCounter, withRestart, withBlock, withControl, withEnabled, withSlot}
+use Rattle.rules.specs.Blocks.{finished}
+use Rattle.rules.specs.Slots.{newSlot}
+use Rattle.rules.specs.PowerOn.{powerOn}
+use Rattle.rules.specs.Validity.{validCore}
+use Rattle.rules.specs.Registers.{written}
+use Rattle.rules.specs.Clock.{cpuClock, Clock, clock, stopped, slotClock, clockOf}
+use Rattle.rules.specs.Buffers.{Store}
+use Rattle.rules.specs.World.{System, clocked}
+use Rattle.rules.specs.Refusals.{accessRefusal, lentRefusal}
+use Rattle.rules.specs.Calls.{grantBy, grant}
+use Rattle.rules.specs.Entries.{Outside, Entry, bytesWritten, runBy, run, systemAtPowerOn}
+use Rattle.rules.specs.History.{Past, historyBy, history}
+use Rattle.rules.specs.declared.Core.{Core}
+
+-- a slot's first clock with the recheck: a finished block disables the device, on a clock of the processor
+unfoldable pub firstClockWithRecheck : Core → Clock
+firstClockWithRecheck c =
+    pick (finished (c .block)) (clock cpuClock false none (stopped c)) (slotClock 1 (withSlot (newSlot c) c))
+
+-- one clock with the recheck
+unfoldable pub clockWithRecheck : Core → Clock
+clockWithRecheck c =
+    pick (c .enabled)
+    (pick (eqb (c .slot .elapsed) 0) (firstClockWithRecheck c) (slotClock (c .slot .elapsed + 1) c))
+    (clock cpuClock false none c)
+
+-- it hits: the device is enabled, no clock of a slot has elapsed, and the counter is at or above the block count
+unfoldable pub recheckHits : Core → Bool
+recheckHits c = every (c .enabled ∷ eqb (c .slot .elapsed) 0 ∷ finished (c .block) ∷ [])
+
+-- it never hits
+pub record RecheckNeverHits : Type 1 where
+  -- at a valid core, nor after any number of clocks from one
+  pub valid : (c : Core) → validCore c ≡ true → recheckHits c ≡ false
+  pub granted : {M : Type 0} (σ : Store M) (s : System M) (n : ℕ) → validCore (s .world .core) ≡ true → recheckHits (clocked σ n s .world .core) ≡ false
+  -- after a clock, of any core whatsoever
+  pub clock : (c : Core) → recheckHits (clockOf c .next) ≡ false
+  -- where a list of calls ends, nor after any number of clocks from there
+  pub reached :
+      (M C : Type 0) (σ : Store M) (ω : Outside M C) (m : M) (l : List ℕ) (es : List (Entry σ C)) (n : ℕ)
+      → AreBytes (bytesWritten es)
+      → recheckHits (clocked σ n (run σ ω es (systemAtPowerOn m l) .system) .world .core) ≡ false
+
+-- not valid: power-on, but enabled, so that a slot would begin with a block of no bytes
+abbrev pub emptyBlock : Core
+emptyBlock = withEnabled true powerOn
+
+-- before the last clock of a slot's wait, with the slot's byte moved and the block's length 0
+abbrev pub inLastWait : Bool → Core
+inLastWait restart =
+    withEnabled true
+    (withSlot (record { elapsed = 31; bus = 4; length = 32; burst = true })
+    (withBlock (withCounter 1 (powerOn .block)) (withControl (withRestart restart (powerOn .control)) powerOn)))
+
+-- the nearest that calls come to it, worked out
+pub record RecheckNearest : Type 0 where
+  -- Enable has looked at a block of no bytes
+  pub enable : recheckHits (written 0x6B 0x87 powerOn) ≡ false
+  -- a slot's last clock has looked at such a block, without auto restart and with it
+  pub valid : (restart : Bool) → validCore (inLastWait restart) ≡ true
+  pub slotEnd : (restart : Bool) → recheckHits (clockOf (inLastWait restart) .next) ≡ false
+  -- a device at which it hits is refused with 1 by every call, whatever is asked
+  pub hits : recheckHits emptyBlock ≡ true
+  pub access : (sum port : ℕ) → accessRefusal emptyBlock sum port ≡ 1
+  pub grant : (sum memory latches n : ℕ) → lentRefusal emptyBlock sum memory latches n ≡ 1
+
+-- with it and without it every answer is the same
+pub record RecheckIdle : Type 1 where
+  -- where it does not hit, the clock is the rules' clock
+  pub clock : (c : Core) → recheckHits c ≡ false → clockWithRecheck c ≡ clockOf c
+  -- a grant, of any system whatsoever: an invalid one is refused before any clock
+  pub grants : {M : Type 0} (σ : Store M) (s : System M) (n : ℕ) → grantBy clockWithRecheck σ s n ≡ grant σ s n
+  -- the run of any list from any system, and its history from any past
+  pub runs : {M C : Type 0} (σ : Store M) (ω : Outside M C) (es : List (Entry σ C)) (s : System M) → runBy clockWithRecheck σ ω es s ≡ run σ ω es s
+  pub histories : {M C : Type 0} (σ : Store M) (ω : Outside M C) (es : List (Entry σ C)) (p : Past M) → historyBy clockWithRecheck σ ω es p ≡ history σ ω es p
