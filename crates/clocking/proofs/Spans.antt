@@ -54,7 +54,7 @@ valid-span c budget {x} v p = subst (λ (m : ℕ). IsSpan c m x) (valid-room c b
 
 -- ---- what each test says of the answer
 
-pub positive : {n : ℕ} → (n ≡ 0 → ⊥) → 0 < n
+positive : {n : ℕ} → (n ≡ 0 → ⊥) → 0 < n
 positive h = omega (arith, h)
 
 pub none-answers : (c : Core) (budget : ℕ) {r : Span} → budget ≡ 0 → r ≡ span cpuClock 0 false c c → IsLongestSpan c budget r

@@ -25,16 +25,16 @@ fn at_slot_start(c: Core) -> bool
     c.enabled & ((c.slot.elapsed == 0) & (0 < slot.length))
 }
 
-// The whole slots that a budget has room for, and the block bytes: none but at the start of one.
+// The whole slots for which a budget has the clocks and the block the bytes; none but at the start of one.
 pub fn slots_within(c: Core, budget: u32) -> u32
     ensures { λ r. ⌜ r ≡ slotsWithin c budget ⌝ }
 {
     if at_slot_start(c) {
         let slot = slot::new_slot(c);
         let length = slot.length as u32;
+        let fitting = budget / length;
         let b = c.block;
         let left = block::bytes_left(b);
-        let fitting = budget / length;
         return stretch::least(fitting, left);
     }
     0

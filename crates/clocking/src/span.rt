@@ -7,6 +7,7 @@ ghost use Rattle.clocking.specs.Answers.{roomFor, MayRun};
 use crate::clock;
 use crate::place;
 use crate::stretch;
+use parts::slot;
 use rules::Core;
 use rules::Span;
 
@@ -23,9 +24,9 @@ fn room_for(c: Core, budget: u32) -> u32
     0
 }
 
-// Clocks of the processor, after which the core is `next`.
-fn cpu_span(clocks: u32, c: Core, next: Core) -> Span
-    ensures { λ r. ⌜ r ≡ span cpuClock clocks false c next ⌝ }
+// Clocks of the processor, which leave the core as it is.
+fn cpu_span(clocks: u32, c: Core) -> Span
+    ensures { λ r. ⌜ r ≡ span cpuClock clocks false c c ⌝ }
 {
     let from = place::source_of(c);
     let to = place::destination_of(c);
@@ -35,7 +36,7 @@ fn cpu_span(clocks: u32, c: Core, next: Core) -> Span
         moves: false,
         from,
         to,
-        next,
+        next: c,
     }
 }
 
@@ -46,7 +47,7 @@ fn slot_span(c: Core, budget: u32) -> Span
 {
     let from = place::source_of(c);
     let to = place::destination_of(c);
-    let slot = stretch::slot_of(c);
+    let slot = slot::slot_of(c);
     let rest = stretch::stretch_rest(slot);
     let clocks = stretch::least(budget, rest);
     let some = clocks as u16;
@@ -72,10 +73,10 @@ pub fn next_span(c: Core, budget: u32) -> Span
 {
     let room = room_for(c, budget);
     if room == 0 {
-        return cpu_span(0, c, c);
+        return cpu_span(0, c);
     }
     if !c.enabled {
-        return cpu_span(room, c, c);
+        return cpu_span(room, c);
     }
     slot_span(c, room)
 }

@@ -1,7 +1,6 @@
 // The rest of a slot's bus time or of its wait, and clocks that end before it does.
 ghost use mathlib.Core.Path.{_≡_};
 ghost use Prim.Native.Nat.{_+_, _<_};
-ghost use Rattle.rules.specs.Slots.{slotOf};
 ghost use Rattle.rules.specs.Stretches.{least, slotRest, stretchRest, elapsedBy};
 ghost use Rattle.clocking.specs.Answers.{waitAnswer};
 use parts::slot;
@@ -16,16 +15,6 @@ pub(crate) fn least(x: u32, y: u32) -> u32
         return x;
     }
     y
-}
-
-// The slot that runs, or that the next clock begins.
-pub(crate) fn slot_of(c: Core) -> Slot
-    ensures { λ r. ⌜ r ≡ slotOf c ⌝ }
-{
-    if c.slot.elapsed == 0 {
-        return slot::new_slot(c);
-    }
-    c.slot
 }
 
 // The clocks left of a slot, one at least.
@@ -72,11 +61,11 @@ fn elapse(n: u32, s: Slot) -> Slot
     next
 }
 
-// `n` clocks of the slot that runs or begins, if they end before its present stretch does: of an enabled core.
+// Of an enabled core: `n` clocks of the slot that runs or begins, if they end before its present stretch does.
 pub fn wait_within(n: u32, c: Core) -> Wait
     ensures { λ r. ⌜ r ≡ waitAnswer n c ⌝ }
 {
-    let slot = slot_of(c);
+    let slot = slot::slot_of(c);
     let rest = stretch_rest(slot);
     if (0 < n) & (n < rest) {
         let slot = elapse(n, slot);

@@ -5,7 +5,7 @@ use native.Mathlib.Omega.{arith}
 use mathlib.Core.Path.{_≡_, refl, ap}
 use mathlib.Core.List.{List}
 use lib.ListN.{getD, length}
-use Rattle.examples.specs.Slips.{savedCopy, NotSaved, NotWhole, NotModeByRead, NotOfInvalid, NotWithoutContinue, NotWithoutZero, NotPassed, NotAnew}
+use Rattle.examples.specs.Slips.{savedCopy, NotSaved, NotWhole, NotModeByRead, NotAtEveryCore, NotWithoutContinue, NotWithoutZero, NotPassed, NotAnew}
 use Rattle.examples.specs.ShortLists.{sent}
 use Rattle.rules.specs.Clock.{Clock}
 use Rattle.rules.specs.World.{System}
@@ -30,9 +30,9 @@ unfolding rowsOpened
 not-mode-by-read e = let z : _≡_ {A = ℕ} 0x106 0x105 = e in omega arith
 
 -- the recheck gives the clock to the processor, the rules to the bus
-pub not-of-invalid : NotOfInvalid
+pub not-at-every-core : NotAtEveryCore
 unfolding rowsOpened clockWithRecheck firstClockWithRecheck
-not-of-invalid =
+not-at-every-core =
     record {
       invalid = refl;
       clocks = λ e. let z : _≡_ {A = ℕ} 2 0 = ap (λ (x : Clock). kindCode (x .kind)) e in omega arith;

@@ -1,4 +1,5 @@
--- Wrong models that no change of one definition could express, each with the worked example at which it differs.
+-- Wrong models that no change of one definition could express, each with the worked example, the short list or the core at
+-- which it differs.
 -- Assumes nothing.
 use Prim.Native.Nat.{ℕ, zero, suc, _+_}
 use mathlib.Core.Path.{_≡_}
@@ -18,7 +19,7 @@ use Rattle.rules.specs.Calls.{grant}
 use Rattle.rules.specs.Entries.{flatOutside, portWrite}
 use Rattle.rules.specs.History.{Past, grantPassed, history, pastAtPowerOn}
 use Rattle.rules.specs.Accounts.{bytesNoted, zeroedNoted}
-use Rattle.rules.specs.Recheck.{clockWithRecheck, emptyBlock}
+use Rattle.rules.specs.Recheck.{clockWithRecheck, enabledOnEmptyBlock}
 use Rattle.examples.specs.Rows.{Row, withCore, start, played}
 use Rattle.examples.specs.WorkedExamples.{threeClocks, overlap, modeByParameter}
 use Rattle.examples.specs.ShortLists.{sent, granting, blocks, zeros}
@@ -54,13 +55,13 @@ NotModeByRead = blockCount (readByte modeAtEnd .core .block) ≡ blockCount (mod
 
 -- ---- the recheck
 
--- the two clocks taken for one at every core: at one that is not valid they differ, and so does what a clock of its system
--- would leave. A grant refuses it
-pub record NotOfInvalid : Type 0 where
-  pub invalid : validCore emptyBlock ≡ false
-  pub clocks : clockWithRecheck emptyBlock ≡ clockOf emptyBlock → ⊥
-  pub systems : clockedBy clockWithRecheck flat 1 (withCore emptyBlock start) ≡ clocked flat 1 (withCore emptyBlock start) → ⊥
-  pub refused : grant flat (withCore emptyBlock start) 1 .answered .number ≡ 1
+-- that the two clocks are one at every core: at this one, which is not valid, they differ, and so does what a clock would
+-- leave of its system; a grant refuses it
+pub record NotAtEveryCore : Type 0 where
+  pub invalid : validCore enabledOnEmptyBlock ≡ false
+  pub clocks : clockWithRecheck enabledOnEmptyBlock ≡ clockOf enabledOnEmptyBlock → ⊥
+  pub systems : clockedBy clockWithRecheck flat 1 (withCore enabledOnEmptyBlock start) ≡ clocked flat 1 (withCore enabledOnEmptyBlock start) → ⊥
+  pub refused : grant flat (withCore enabledOnEmptyBlock start) 1 .answered .number ≡ 1
 
 -- ---- the history
 

@@ -441,6 +441,7 @@ table =
     ∷ counter 0
     ∷ pointers 0x1000 0x2000
     ∷ counts 12 0 84
+    ∷ memory 0x2000 (0xA1 ∷ 0xA2 ∷ 0xE3 ∷ [])
     ∷ [])
     -- length lowered and raised again in the same wait: the block goes on
     ∷ row "length lowered and raised in a wait"
@@ -475,6 +476,25 @@ table =
     ∷ pointers 0x1000 0x2000
     ∷ clocks 5
     ∷ counts 4 0 33
+    ∷ memory 0x2000 (0xA1 ∷ 0xE2 ∷ [])
+    ∷ [])
+    -- length 0 and Continue in a wait under auto restart: the same, since there is no byte to begin again with
+    ∷ row "length 0 and Continue in a wait"
+    (send 0x6B (program 0x1000 2 (0x22 ∷ 0x01 ∷ []) 0xCD 0x2000 0xA2)
+    ∷ clocks 10
+    ∷ send 0x6B (0x65 ∷ 0x00 ∷ 0x00 ∷ 0xD3 ∷ [])
+    ∷ count 0
+    ∷ counter 0
+    ∷ clocks 21
+    ∷ enabled true
+    ∷ status 0x3B
+    ∷ clocks 1
+    ∷ enabled false
+    ∷ status 0x1B
+    ∷ pointers 0x1001 0x2001
+    ∷ clocks 5
+    ∷ counts 4 0 33
+    ∷ memory 0x2000 (0xA1 ∷ 0xE2 ∷ [])
     ∷ [])
     -- back to zxn mode in a wait: an ignored byte on 6B makes the block one shorter, and its last byte has moved
     ∷ row "back to zxn mode in a wait"
@@ -510,6 +530,7 @@ table =
     ∷ clocks 4
     ∷ counter 2
     ∷ counts 8 0 11
+    ∷ memory 0x2000 (0xA1 ∷ 0xA2 ∷ 0xE3 ∷ [])
     ∷ [])
     -- writes to I/O: the latch at the port's address is set, also the device's own, and nothing else
     ∷ row "writes to I/O"

@@ -14,15 +14,13 @@ pub fn block_count(b: Block) -> u32
     length
 }
 
-// The bytes of a block that have not moved: none where the counter is above the block count.
+// The bytes that the counter is short of the block count, by a wrapping difference: where a slot begins in a valid device it
+// is short of some.
 pub fn bytes_left(b: Block) -> u32
     ensures { λ r. ⌜ r ≡ bytesLeft b ⌝ }
 {
     let count = block_count(b);
-    if b.counter < count {
-        return count - b.counter;
-    }
-    0
+    std::num::wrapping_sub_u32(count, b.counter)
 }
 
 // The counter is at or above the block count.

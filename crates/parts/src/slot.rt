@@ -1,6 +1,6 @@
-// The transfer slot: the one that begins, waiting in it, and who has the bus.
+// The transfer slot: the one that begins or runs, waiting in it, and who has the bus.
 ghost use mathlib.Core.Path.{_≡_};
-ghost use Rattle.rules.specs.Slots.{noSlot, waiting, busHeld, unmoved, slotLength, newSlot};
+ghost use Rattle.rules.specs.Slots.{noSlot, waiting, busHeld, unmoved, slotLength, newSlot, slotOf};
 use rules::Core;
 use rules::Slot;
 
@@ -42,6 +42,16 @@ pub fn new_slot(c: Core) -> Slot
         length,
         burst,
     }
+}
+
+// The slot that runs, or that the next clock of an enabled device begins.
+pub fn slot_of(c: Core) -> Slot
+    ensures { λ r. ⌜ r ≡ slotOf c ⌝ }
+{
+    if c.slot.elapsed == 0 {
+        return new_slot(c);
+    }
+    c.slot
 }
 
 // The device waits in a burst slot.

@@ -5,27 +5,28 @@
 use Prim.Native.Nat.{ℕ, zero, suc, _+_, _<_}
 use native.Mathlib.Omega.{arith}
 use mathlib.Core.Path.{_≡_, refl, sym, _∙_, ap}
-use mathlib.Core.Bool.{Bool, true, false}
+use mathlib.Core.Bool.{Bool, true, false, not}
+use mathlib.Core.Option.{none}
 use mathlib.Core.List.{List, [], _∷_}
 use lib.Dec.{eqb, ltb}
 use borrow.Author.Tests.{eqb-true, eqb-false, eq-eqb, ne-eqb, ltb-true}
-use Rattle.rules.specs.Choice.{pick, every}
+use Rattle.rules.specs.Choice.{pick, every, firstHit}
 use Rattle.rules.specs.Parts.{withSlot}
 use Rattle.rules.specs.Blocks.{blockCount, finished}
 use Rattle.rules.specs.Slots.{newSlot}
-use Rattle.rules.specs.Validity.{validCore, total}
+use Rattle.rules.specs.Validity.{validCore, valid, total}
 use Rattle.rules.specs.Facts.{ValidParts}
-use Rattle.rules.specs.Clock.{counted, Clock, clock, movedAt, Ending, slotEnd, clockEnd, slotClock, begun, clockOf}
+use Rattle.rules.specs.Clock.{cpuClock, counted, Clock, clock, stopped, movedAt, Ending, slotEnd, clockEnd, slotClock, begun, clockOf}
 use Rattle.rules.specs.Buffers.{Store, Buffers, source, destination}
 use Rattle.rules.specs.World.{System, buffersAfter, stepCountedBy, clockedBy, clocked}
-use Rattle.rules.specs.Refusals.{grantRefusal}
+use Rattle.rules.specs.Refusals.{accessRefusal, lentRefusal, grantRefusal}
 use Rattle.rules.specs.Calls.{Answered, Answer, accepted, refused, grantNumber, grantBy, grant}
 use Rattle.rules.specs.Entries.{Outside, Entry, portWrite, portRead, clockGrant, otherGrant, outsideChange, besideBuffers, Run, enterBy, enter, runBy, run, systemAtPowerOn}
 use Rattle.rules.specs.History.{Past, EntryNoted, History, notedUnless, clockPassedBy, clocksPassedBy, clocksPassed, noteEntryBy, noteEntry, historyBy, history}
-use Rattle.rules.specs.Recheck.{firstClockWithRecheck, clockWithRecheck, recheckHits, RecheckNeverHits, inLastWait, RecheckNearest, RecheckIdle}
+use Rattle.rules.specs.Recheck.{firstClockWithRecheck, clockWithRecheck, recheckHits, RecheckNeverHits, inLastWait, RecheckNearest, RecheckUnseen}
 use Rattle.rules.specs.Opened.{opened}
 use Rattle.rules.specs.declared.Core.{Core}
-use Rattle.rules.proofs.Choice.{clash, pick-true, pick-false, pick-cases, either, all-true, true-all, every-stop, every-stop-later}
+use Rattle.rules.proofs.Choice.{clash, pick-true, pick-false, pick-cases, not-of-false, either, all-true, true-all, every-stop, every-stop-later}
 use Rattle.rules.proofs.Blocks.{reloaded-unfinished}
 use Rattle.rules.proofs.Validity.{core-parts, progress-facts}
 use Rattle.rules.proofs.Slots.{unmoved-first}
@@ -124,6 +125,27 @@ clocks-same c h =
     (first-same c on (eqb-true _ _ z)))
     (λ z. later-same c on (eqb-false _ _ z)))
     (off-same c)
+
+clock-hit : (c : Core) → recheckHits c ≡ true → clockWithRecheck c ≡ clock cpuClock false none (stopped c)
+unfolding recheckHits clockWithRecheck firstClockWithRecheck
+clock-hit c h =
+    let t = all-true _ h in
+    pick-true _ _ _ (t .0) ∙ pick-true _ _ _ (t .1 .0) ∙ pick-true _ _ _ (t .1 .1 .0)
+
+-- ---- a core at which it hits is not valid
+
+hit-invalid : (c : Core) (sum : ℕ) → recheckHits c ≡ true → not (valid c sum) ≡ true
+unfolding valid
+hit-invalid c sum h =
+    not-of-false _ (every-stop _ _ (either (validCore c) (λ v. clash (sym (valid-unhit c v) ∙ h)) (λ v. v)))
+
+access-hit : (c : Core) (sum port : ℕ) → recheckHits c ≡ true → accessRefusal c sum port ≡ 1
+unfolding accessRefusal firstHit
+access-hit c sum port h = pick-true _ _ _ (hit-invalid c sum h)
+
+grant-hit : (c : Core) (sum memory latches n : ℕ) → recheckHits c ≡ true → lentRefusal c sum memory latches n ≡ 1
+unfolding lentRefusal firstHit
+grant-hit c sum memory latches n h = pick-true _ _ _ (hit-invalid c sum h)
 
 -- ---- grants
 
@@ -241,6 +263,8 @@ recheck-never-hits =
           λ M C σ ω m l es n b.
           let k = reached-valid σ ω m l es b in
           clocked-unhit σ (run σ ω es (systemAtPowerOn m l) .system) n (parts-unhit _ (k .core .valid));
+      access = access-hit;
+      grant = grant-hit;
     }
 
 pub recheck-nearest : RecheckNearest
@@ -263,5 +287,5 @@ recheck-nearest =
     end-so true = refl
     end-so false = refl
 
-pub recheck-idle : RecheckIdle
-recheck-idle = record { clock = clocks-same; grants = grants-same; runs = runs-same; histories = histories-same }
+pub recheck-unseen : RecheckUnseen
+recheck-unseen = record { clock = clocks-same; hit = clock-hit; grants = grants-same; runs = runs-same; histories = histories-same }

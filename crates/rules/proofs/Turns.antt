@@ -24,7 +24,7 @@ use Rattle.rules.proofs.WholeSlots.{Starts, kept-starts, IsRun, run-wit
 -- the whole slots that the clocks left have room for
 module _ {c : Core} {k : Clocks} {left slots : ℕ} (r : Ready c k left) (e : slots ≡ slotsWithin c left) (h : 0 < slots) where
   pub ready-run : IsRun c left slots
-  ready-run = rw e (run-within c left (rw e at h))
+  ready-run = rw e (run-within c left (r .kept) (rw e at h))
 
   pub ready-starts : Starts c
   ready-starts = kept-starts c (r .kept) (ready-run .on) (ready-run .rest)

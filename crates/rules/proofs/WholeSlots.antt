@@ -7,7 +7,7 @@ use native.Mathlib.Nat.{add-assoc, suc-mul, one-mul, le-refl, div-mul-le-self, m
 use mathlib.Core.Path.{_≡_, refl, sym, _∙_, ap}
 use mathlib.Core.Bool.{Bool, true, false}
 use lib.Dec.{ltb}
-use borrow.Author.Tests.{eq-eqb, ne-eqb, le-leb, lt-leb, lt-ltb, le-ltb, ltb-true, ltb-false, eqb-true}
+use borrow.Author.Tests.{eq-eqb, ne-eqb, le-leb, lt-leb, lt-ltb, le-ltb, leb-false, ltb-true, ltb-false, eqb-true}
 use Rattle.rules.specs.Choice.{pick}
 use Rattle.rules.specs.Parts.{withCounter, withBlock, withSlot}
 use Rattle.rules.specs.Blocks.{blockCount, bytesLeft, finished}
@@ -18,11 +18,14 @@ use Rattle.rules.specs.Clock.{busClock, countedBy, Ending, moved, withEl
 use Rattle.rules.specs.Buffers.{Store, Buffers, source, destination, transfer}
 use Rattle.rules.specs.World.{System, system, buffersAfter, clocked}
 use Rattle.rules.specs.WholeSlots.{movedBy, slotsCounted, transferred, slotsPassed, SlotsAreClocks, atSlotStart, slotsWithin}
+use Rattle.rules.specs.declared.Block.{Block}
 use Rattle.rules.specs.declared.Slot.{Slot}
 use Rattle.rules.specs.declared.Clocks.{Clocks}
 use Rattle.rules.specs.declared.Core.{Core}
 use Rattle.rules.proofs.Choice.{pick-true, pick-false, pick-cases, either, all-true}
-use Rattle.rules.proofs.Steady.{kept-steady, kept-slot}
+use Rattle.rules.proofs.Blocks.{count-most}
+use Rattle.rules.proofs.Slots.{unmoved-first}
+use Rattle.rules.proofs.Steady.{kept-steady, kept-slot, kept-progress}
 use Rattle.rules.proofs.Clock.{new-length}
 use Rattle.rules.proofs.World.{clocked-add}
 use Rattle.rules.proofs.Spans.{kind-of-code, counted-none, span-clocked}
@@ -262,9 +265,14 @@ at-slot-start c e =
       length = ltb-true 0 (newSlot c .length) (h .1 .1 .0);
     }
 
-pub run-within : (c : Core) (budget : ℕ) → 0 < slotsWithin c budget → IsRun c budget (slotsWithin c budget)
+-- of an unfinished block so many bytes are left
+left-block : (b : Block) {n : ℕ} → b .length < 65536 → finished b ≡ false → n ≤ bytesLeft b → b .counter + n ≤ blockCount b
+unfolding finished
+left-block b l u h = omega (arith, h, count-most b l, leb-false (blockCount b) (b .counter) u)
+
+pub run-within : (c : Core) (budget : ℕ) → Kept c → 0 < slotsWithin c budget → IsRun c budget (slotsWithin c budget)
 unfolding slotsWithin
-run-within c budget =
+run-within c budget k =
     pick-cases (λ (n : ℕ). 0 < n → IsRun c budget n) (atSlotStart c) _ _
     (λ e p.
     let h = at-slot-start c e in
@@ -273,7 +281,7 @@ run-within c budget =
       on = h .on;
       rest = h .rest;
       within = le-trans (mul-le-mul-right (newSlot c .length) (l .first)) (div-mul-le-self budget (newSlot c .length));
-      block = omega (arith, p, l .second);
+      block = left-block (c .block) (k .range .length) (kept-progress c k (h .on) (unmoved-first (c .slot) (h .rest))) (l .second);
     })
     (λ e p. absurd (omega arith))
 

@@ -1,6 +1,6 @@
 -- The block count, the bytes left, and whether a block is finished.
 -- Assumes nothing.
-use Prim.Native.Nat.{ℕ, _+_, _-_}
+use Prim.Native.Nat.{ℕ, _+_, _-_, _%_}
 use mathlib.Core.Bool.{Bool}
 use lib.Dec.{leb}
 use Rattle.rules.specs.Choice.{pick}
@@ -10,9 +10,9 @@ use Rattle.rules.specs.declared.Block.{Block}
 unfoldable pub blockCount : Block → ℕ
 blockCount b = pick (b .zilog) (b .length + 1) (b .length)
 
--- the bytes of a block that have not moved; none where the counter is above the block count
+-- the bytes that the counter is short of the block count, modulo 2^32
 abbrev pub bytesLeft : Block → ℕ
-bytesLeft b = blockCount b - b .counter
+bytesLeft b = (blockCount b + (4294967296 - b .counter)) % 4294967296
 
 -- the counter is at or above the block count
 unfoldable pub finished : Block → Bool

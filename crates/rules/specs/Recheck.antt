@@ -1,5 +1,5 @@
--- The recheck: document 01's look at the block on a slot's first clock, which the rules' clock does without. The clock that
--- has it, and that no call could ever tell the two apart.
+-- The recheck: the look at the block that document 01 had on a slot's first clock until a request took it out. The clock with
+-- it, as it was, and that no call can tell it from the rules' clock.
 -- Assumes nothing.
 use Prim.Native.Nat.{ℕ, _+_}
 use mathlib.Core.Path.{_≡_}
@@ -14,6 +14,7 @@ use Rattle.rules.specs.Blocks.{finished}
 use Rattle.rules.specs.Slots.{newSlot}
 use Rattle.rules.specs.PowerOn.{powerOn}
 use Rattle.rules.specs.Validity.{validCore}
+use Rattle.rules.specs.Commands.{blockEnded, disable}
 use Rattle.rules.specs.Registers.{written}
 use Rattle.rules.specs.Clock.{cpuClock, Clock, clock, stopped, slotClock, clockOf}
 use Rattle.rules.specs.Buffers.{Store}
@@ -47,15 +48,18 @@ pub record RecheckNeverHits : Type 1 where
   pub granted : {M : Type 0} (σ : Store M) (s : System M) (n : ℕ) → validCore (s .world .core) ≡ true → recheckHits (clocked σ n s .world .core) ≡ false
   -- after a clock, of any core whatsoever
   pub clock : (c : Core) → recheckHits (clockOf c .next) ≡ false
-  -- where a list of calls ends, nor after any number of clocks from there
+  -- where a list of calls ends, writes in a wait among them, nor after any number of clocks from there
   pub reached :
       (M C : Type 0) (σ : Store M) (ω : Outside M C) (m : M) (l : List ℕ) (es : List (Entry σ C)) (n : ℕ)
       → AreBytes (bytesWritten es)
       → recheckHits (clocked σ n (run σ ω es (systemAtPowerOn m l) .system) .world .core) ≡ false
+  -- a core at which it hits is refused with 1 by every call, whatever is asked
+  pub access : (c : Core) (sum port : ℕ) → recheckHits c ≡ true → accessRefusal c sum port ≡ 1
+  pub grant : (c : Core) (sum memory latches n : ℕ) → recheckHits c ≡ true → lentRefusal c sum memory latches n ≡ 1
 
 -- not valid: power-on, but enabled, so that a slot would begin with a block of no bytes
-abbrev pub emptyBlock : Core
-emptyBlock = withEnabled true powerOn
+abbrev pub enabledOnEmptyBlock : Core
+enabledOnEmptyBlock = withEnabled true powerOn
 
 -- before the last clock of a slot's wait, with the slot's byte moved and the block's length 0
 abbrev pub inLastWait : Bool → Core
@@ -64,22 +68,24 @@ inLastWait restart =
     (withSlot (record { elapsed = 31; bus = 4; length = 32; burst = true })
     (withBlock (withCounter 1 (powerOn .block)) (withControl (withRestart restart (powerOn .control)) powerOn)))
 
--- the nearest that calls come to it, worked out
+-- worked out at the edge
 pub record RecheckNearest : Type 0 where
   -- Enable has looked at a block of no bytes
   pub enable : recheckHits (written 0x6B 0x87 powerOn) ≡ false
   -- a slot's last clock has looked at such a block, without auto restart and with it
   pub valid : (restart : Bool) → validCore (inLastWait restart) ≡ true
   pub slotEnd : (restart : Bool) → recheckHits (clockOf (inLastWait restart) .next) ≡ false
-  -- a device at which it hits is refused with 1 by every call, whatever is asked
-  pub hits : recheckHits emptyBlock ≡ true
-  pub access : (sum port : ℕ) → accessRefusal emptyBlock sum port ≡ 1
-  pub grant : (sum memory latches n : ℕ) → lentRefusal emptyBlock sum memory latches n ≡ 1
+  -- it hits here, and every call refuses the device
+  pub hits : recheckHits enabledOnEmptyBlock ≡ true
+  pub access : (sum port : ℕ) → accessRefusal enabledOnEmptyBlock sum port ≡ 1
+  pub grant : (sum memory latches n : ℕ) → lentRefusal enabledOnEmptyBlock sum memory latches n ≡ 1
 
 -- with it and without it every answer is the same
-pub record RecheckIdle : Type 1 where
-  -- where it does not hit, the clock is the rules' clock
+pub record RecheckUnseen : Type 1 where
+  -- where it does not hit, the clock is the rules' clock; where it does, one of the processor, with which the device is
+  -- disabled and E cleared
   pub clock : (c : Core) → recheckHits c ≡ false → clockWithRecheck c ≡ clockOf c
+  pub hit : (c : Core) → recheckHits c ≡ true → clockWithRecheck c ≡ record { kind = cpuClock; moves = false; zeroed = none; next = disable (blockEnded c) }
   -- a grant, of any system whatsoever: an invalid one is refused before any clock
   pub grants : {M : Type 0} (σ : Store M) (s : System M) (n : ℕ) → grantBy clockWithRecheck σ s n ≡ grant σ s n
   -- the run of any list from any system, and its history from any past

@@ -26,7 +26,7 @@ newSlot c =
       burst = c .control .burst;
     }
 
--- the slot that runs, or that the next clock begins
+-- the slot that runs, or that the next clock of an enabled device begins
 unfoldable pub slotOf : Core → Slot
 slotOf c = pick (eqb (c .slot .elapsed) 0) (newSlot c) (c .slot)
 

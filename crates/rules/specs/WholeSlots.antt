@@ -22,7 +22,7 @@ use Rattle.rules.specs.declared.Core.{Core}
 unfoldable pub atSlotStart : Core → Bool
 atSlotStart c = every (c .enabled ∷ eqb (c .slot .elapsed) 0 ∷ ltb 0 (newSlot c .length) ∷ [])
 
--- the whole slots that a budget of clocks has room for, and the block bytes: none but at the start of one
+-- the whole slots for which a budget has the clocks and the block the bytes; none but at the start of one
 unfoldable pub slotsWithin : Core → ℕ → ℕ
 slotsWithin c budget = pick (atSlotStart c) (least (budget / newSlot c .length) (bytesLeft (c .block))) 0
 

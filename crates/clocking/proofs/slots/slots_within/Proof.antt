@@ -21,7 +21,7 @@ bytes-left-requires c κs = search needs
 
 div-fitting : tie.Need-div-fitting
 div-fitting c =
-    let at-slot = c .before .before .before in
+    let at-slot = c .before in
     length-some _ (at-slot .before .before .at-slot-start .ensures) (at-slot .before .if1 .taken) (at-slot .new-slot .ensures)
 
 least-requires : tie.Need-least-requires
@@ -50,8 +50,8 @@ slots-within-spec =
     at-slot-start-requires
     new-slot-requires
     cast-length
-    bytes-left-requires
     div-fitting
+    bytes-left-requires
     least-requires
     returns
     returns-2)

@@ -4,8 +4,8 @@ use Rattle.rules.specs.Slots.{slotOf}
 use Rattle.rules.specs.Choice.{pick}
 use borrow.Author.Tests.{eq-eqb, ne-eqb}
 use borrow.Author.Needs.{needs}
-use Rattle.clocking.proofs.stretch.slot_of.Statement.{statement}
-use Rattle.clocking.proofs.stretch.slot_of.Tie as tie
+use Rattle.parts.proofs.slot.slot_of.Statement.{statement}
+use Rattle.parts.proofs.slot.slot_of.Tie as tie
 
 new-slot-requires : tie.Need-new-slot-requires
 new-slot-requires c κs = search needs
