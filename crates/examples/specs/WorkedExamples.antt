@@ -10,7 +10,7 @@ use Rattle.rules.specs.Pending.{codes}
 use Rattle.rules.specs.declared.Core.{Core}
 use Rattle.rules.specs.Slots.{slotLength}
 use Rattle.rules.specs.Bytes.{lowByte, highByte}
-use Rattle.examples.specs.Rows.{Row, row, fill, latch, send, sendRefused, expect, expectRefused, clocks, borrow, counts, memory, latches, pointers, counter, status, enabled, count, suppose, supposeCounts, clocksRefused, figure, changed, nextMove, start, failures}
+use Rattle.examples.specs.Rows.{Action, Row, row, fill, latch, send, sendRefused, expect, expectRefused, clocks, borrow, counts, memory, latches, pointers, counter, status, enabled, count, suppose, supposeCounts, clocksRefused, figure, changed, nextMove, start, failures}
 
 -- the bytes of P1: port A at 1000, four bytes, to port B at 2000, cycles of 2 clocks, continuous
 abbrev pub sheet : List ℕ
@@ -37,6 +37,11 @@ awaiting a b d e c = withPending (codes a b d e) c
 -- a core in this slot
 abbrev pub inSlot : ℕ → ℕ → ℕ → Bool → Core → Core
 inSlot n bus length burst c = withSlot (record { elapsed = n; bus = bus; length = length; burst = burst }) c
+
+-- in a burst wait with 22 clocks of its slot left: they run on, and with the last of them the block ends and the device is
+-- disabled
+abbrev pub endsWithTheSlot : List Action
+endsWithTheSlot = clocks 21 ∷ enabled true ∷ status 0x3B ∷ clocks 1 ∷ enabled false ∷ status 0x1B ∷ []
 
 -- P3: three clocks move nothing, and the bus is held; the fourth moves the byte
 abbrev pub threeClocks : Row
@@ -245,16 +250,11 @@ table =
     ∷ clocks 10
     ∷ send 0x6B (0x7D ∷ 0x00 ∷ 0x30 ∷ 0x01 ∷ 0x00 ∷ [])
     ∷ pointers 0x1001 0x2001
-    ∷ clocks 21
-    ∷ enabled true
-    ∷ status 0x3B
-    ∷ clocks 1
-    ∷ enabled false
-    ∷ status 0x1B
-    ∷ counts 4 0 28
+    ∷ (endsWithTheSlot ++
+    (counts 4 0 28
     ∷ memory 0x2000 (0xA1 ∷ 0xE2 ∷ [])
     ∷ expect 0x6B (0x1B ∷ 0x01 ∷ 0x00 ∷ 0x01 ∷ 0x10 ∷ 0x01 ∷ 0x20 ∷ [])
-    ∷ [])
+    ∷ [])))
     -- mode in a wait: after WR4 the slot stays burst, and the next is continuous
     ∷ row "mode in a wait"
     (send 0x6B (program 0x1000 2 (0x22 ∷ 0x01 ∷ []) 0xCD 0x2000 0x82)
@@ -372,19 +372,15 @@ table =
     (send 0x6B (program 0x1000 2 (0x22 ∷ 0x01 ∷ []) 0xCD 0x2000 0xA2)
     ∷ clocks 10
     ∷ send 0x6B (0x65 ∷ 0x00 ∷ 0x00 ∷ [])
-    ∷ clocks 21
-    ∷ enabled true
-    ∷ clocks 1
-    ∷ enabled false
-    ∷ status 0x1B
-    ∷ counts 4 0 28
+    ∷ (endsWithTheSlot ++
+    (counts 4 0 28
     ∷ counter 1
     ∷ expect 0x6B (0x1B ∷ 0x01 ∷ [])
     ∷ send 0x6B (0x65 ∷ 0x01 ∷ 0x00 ∷ 0xD3 ∷ 0x87 ∷ [])
     ∷ clocks 32
     ∷ enabled true
     ∷ counter 0
-    ∷ [])
+    ∷ [])))
     -- length lowered to the counter in a wait: the wait goes on, and the slot's last clock ends the block
     ∷ row "length lowered to the counter"
     (send 0x6B (program 0x1000 4 (0x22 ∷ 0x01 ∷ []) 0xCD 0x2000 0x82)
@@ -393,28 +389,20 @@ table =
     ∷ send 0x6B (0x65 ∷ 0x02 ∷ 0x00 ∷ [])
     ∷ count 2
     ∷ status 0x3B
-    ∷ clocks 21
-    ∷ enabled true
-    ∷ status 0x3B
-    ∷ clocks 1
-    ∷ enabled false
-    ∷ status 0x1B
-    ∷ clocks 5
+    ∷ (endsWithTheSlot ++
+    (clocks 5
     ∷ counter 2
     ∷ counts 8 0 61
     ∷ memory 0x2000 (0xA1 ∷ 0xA2 ∷ 0xE3 ∷ [])
-    ∷ [])
+    ∷ [])))
     -- length lowered below the counter: the same, and Enable finds the block finished
     ∷ row "length lowered below the counter"
     (send 0x6B (program 0x1000 4 (0x22 ∷ 0x01 ∷ []) 0xCD 0x2000 0x82)
     ∷ clocks 42
     ∷ send 0x6B (0x65 ∷ 0x01 ∷ 0x00 ∷ [])
     ∷ count 1
-    ∷ clocks 21
-    ∷ enabled true
-    ∷ clocks 1
-    ∷ enabled false
-    ∷ counter 2
+    ∷ (endsWithTheSlot ++
+    (counter 2
     ∷ send 0x6B (0x8B ∷ 0x87 ∷ [])
     ∷ enabled false
     ∷ status 0x1A
@@ -422,7 +410,7 @@ table =
     ∷ counter 2
     ∷ counts 8 0 61
     ∷ memory 0x2000 (0xA1 ∷ 0xA2 ∷ 0xE3 ∷ [])
-    ∷ [])
+    ∷ [])))
     -- length lowered below the counter under auto restart: the block begins again with its new length
     ∷ row "length lowered under auto restart"
     (send 0x6B (program 0x1000 4 (0x22 ∷ 0x01 ∷ []) 0xCD 0x2000 0xA2)
@@ -467,17 +455,12 @@ table =
     ∷ send 0x6B (0x65 ∷ 0x00 ∷ 0x00 ∷ 0xCF ∷ [])
     ∷ count 0
     ∷ counter 0
-    ∷ clocks 21
-    ∷ enabled true
-    ∷ status 0x3B
-    ∷ clocks 1
-    ∷ enabled false
-    ∷ status 0x1B
-    ∷ pointers 0x1000 0x2000
+    ∷ (endsWithTheSlot ++
+    (pointers 0x1000 0x2000
     ∷ clocks 5
     ∷ counts 4 0 33
     ∷ memory 0x2000 (0xA1 ∷ 0xE2 ∷ [])
-    ∷ [])
+    ∷ [])))
     -- length 0 and Continue in a wait under auto restart: the same, since there is no byte to begin again with
     ∷ row "length 0 and Continue in a wait"
     (send 0x6B (program 0x1000 2 (0x22 ∷ 0x01 ∷ []) 0xCD 0x2000 0xA2)
@@ -485,17 +468,12 @@ table =
     ∷ send 0x6B (0x65 ∷ 0x00 ∷ 0x00 ∷ 0xD3 ∷ [])
     ∷ count 0
     ∷ counter 0
-    ∷ clocks 21
-    ∷ enabled true
-    ∷ status 0x3B
-    ∷ clocks 1
-    ∷ enabled false
-    ∷ status 0x1B
-    ∷ pointers 0x1001 0x2001
+    ∷ (endsWithTheSlot ++
+    (pointers 0x1001 0x2001
     ∷ clocks 5
     ∷ counts 4 0 33
     ∷ memory 0x2000 (0xA1 ∷ 0xE2 ∷ [])
-    ∷ [])
+    ∷ [])))
     -- back to zxn mode in a wait: an ignored byte on 6B makes the block one shorter, and its last byte has moved
     ∷ row "back to zxn mode in a wait"
     (send 0x0B (program 0x1000 1 (0x22 ∷ 0x01 ∷ []) 0xCD 0x2000 0x82)
@@ -504,16 +482,11 @@ table =
     ∷ counter 1
     ∷ send 0x6B (0x86 ∷ [])
     ∷ count 1
-    ∷ clocks 21
-    ∷ enabled true
-    ∷ status 0x3B
-    ∷ clocks 1
-    ∷ enabled false
-    ∷ status 0x1B
-    ∷ clocks 5
+    ∷ (endsWithTheSlot ++
+    (clocks 5
     ∷ counts 4 0 33
     ∷ memory 0x2000 (0xA1 ∷ 0xE2 ∷ [])
-    ∷ [])
+    ∷ [])))
     -- Disable and Enable behind a lowered length: Enable looks at the block, and the device stays disabled
     ∷ row "Enable behind a lowered length"
     (send 0x6B (program 0x1000 3 (0x22 ∷ 0x01 ∷ []) 0xCD 0x2000 0x82)
