@@ -905,8 +905,8 @@ fn stored_session(bench: &mut Bench, path: &str) -> Result<(), String> {
 
 // ---- A slot that would begin with its block finished ---------------------
 
-/// Any content but for this: enabled, with no clock of a slot elapsed, and with
-/// the block finished. That alone makes it not valid.
+/// Any valid content but for this: enabled, with no clock of a slot elapsed, and
+/// with the block finished. That alone makes it not valid.
 fn finished_device(rng: &mut Rng) -> Device {
     let mut device = valid_device(rng);
     let core = &mut device.core;

@@ -14,8 +14,8 @@ pub fn block_count(b: Block) -> u32
     length
 }
 
-// The bytes that the counter is short of the block count, by a wrapping difference: where a slot begins in a valid device it
-// is short of some.
+// The bytes that the counter is short of the block count, by a wrapping difference: where a slot begins in a valid device the
+// counter is below the block count, and nothing wraps.
 pub fn bytes_left(b: Block) -> u32
     ensures { λ r. ⌜ r ≡ bytesLeft b ⌝ }
 {

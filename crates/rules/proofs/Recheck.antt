@@ -23,7 +23,7 @@ use Rattle.rules.specs.Refusals.{accessRefusal, lentRefusal, grantRefusa
 use Rattle.rules.specs.Calls.{Answered, Answer, accepted, refused, grantNumber, grantBy, grant}
 use Rattle.rules.specs.Entries.{Outside, Entry, portWrite, portRead, clockGrant, otherGrant, outsideChange, besideBuffers, Run, enterBy, enter, runBy, run, systemAtPowerOn}
 use Rattle.rules.specs.History.{Past, EntryNoted, History, notedUnless, clockPassedBy, clocksPassedBy, clocksPassed, noteEntryBy, noteEntry, historyBy, history}
-use Rattle.rules.specs.Recheck.{firstClockWithRecheck, clockWithRecheck, recheckHits, RecheckNeverHits, inLastWait, RecheckNearest, RecheckUnseen}
+use Rattle.rules.specs.Recheck.{firstClockWithRecheck, clockWithRecheck, recheckHits, RecheckNeverHits, inWait, RecheckNearest, RecheckUnseen}
 use Rattle.rules.specs.Opened.{opened}
 use Rattle.rules.specs.declared.Core.{Core}
 use Rattle.rules.proofs.Choice.{clash, pick-true, pick-false, pick-cases, not-of-false, either, all-true, true-all, every-stop, every-stop-later}
@@ -268,24 +268,30 @@ recheck-never-hits =
     }
 
 pub recheck-nearest : RecheckNearest
-unfolding opened recheckHits
+unfolding opened recheckHits clockWithRecheck firstClockWithRecheck
 recheck-nearest =
     record {
       enable = refl;
       valid = valid-so;
       slotEnd = end-so;
+      within = within-so;
       hits = refl;
+      kind = refl;
       access = λ sum port. refl;
       grant = λ sum memory latches n. refl;
     }
   where
-    valid-so : (restart : Bool) → validCore (inLastWait restart) ≡ true
+    valid-so : (restart : Bool) → validCore (inWait 31 restart) ≡ true
     valid-so true = refl
     valid-so false = refl
 
-    end-so : (restart : Bool) → recheckHits (clockOf (inLastWait restart) .next) ≡ false
+    end-so : (restart : Bool) → recheckHits (clockOf (inWait 31 restart) .next) ≡ false
     end-so true = refl
     end-so false = refl
+
+    within-so : (restart : Bool) → clockWithRecheck (inWait 30 restart) ≡ clockOf (inWait 30 restart)
+    within-so true = refl
+    within-so false = refl
 
 pub recheck-unseen : RecheckUnseen
 recheck-unseen = record { clock = clocks-same; hit = clock-hit; grants = grants-same; runs = runs-same; histories = histories-same }

@@ -1,5 +1,5 @@
--- The recheck: the look at the block that document 01 had on a slot's first clock until a request took it out. The clock with
--- it, as it was, and that no call can tell it from the rules' clock.
+-- The recheck: a look at the block on a slot's first clock, which document 01 has and the rules do not. The clock with it, and
+-- that no call can tell it from the rules' clock.
 -- Assumes nothing.
 use Prim.Native.Nat.{ℕ, _+_}
 use mathlib.Core.Path.{_≡_}
@@ -61,11 +61,11 @@ pub record RecheckNeverHits : Type 1 where
 abbrev pub enabledOnEmptyBlock : Core
 enabledOnEmptyBlock = withEnabled true powerOn
 
--- before the last clock of a slot's wait, with the slot's byte moved and the block's length 0
-abbrev pub inLastWait : Bool → Core
-inLastWait restart =
+-- in the wait of a slot of 32 clocks, n of which have elapsed: its byte has moved, and the block's length is 0 now
+abbrev pub inWait : ℕ → Bool → Core
+inWait n restart =
     withEnabled true
-    (withSlot (record { elapsed = 31; bus = 4; length = 32; burst = true })
+    (withSlot (record { elapsed = n; bus = 4; length = 32; burst = true })
     (withBlock (withCounter 1 (powerOn .block)) (withControl (withRestart restart (powerOn .control)) powerOn)))
 
 -- worked out at the edge
@@ -73,10 +73,13 @@ pub record RecheckNearest : Type 0 where
   -- Enable has looked at a block of no bytes
   pub enable : recheckHits (written 0x6B 0x87 powerOn) ≡ false
   -- a slot's last clock has looked at such a block, without auto restart and with it
-  pub valid : (restart : Bool) → validCore (inLastWait restart) ≡ true
-  pub slotEnd : (restart : Bool) → recheckHits (clockOf (inLastWait restart) .next) ≡ false
-  -- it hits here, and every call refuses the device
+  pub valid : (restart : Bool) → validCore (inWait 31 restart) ≡ true
+  pub slotEnd : (restart : Bool) → recheckHits (clockOf (inWait 31 restart) .next) ≡ false
+  -- within a slot the recheck does not look, finished as the block may be
+  pub within : (restart : Bool) → clockWithRecheck (inWait 30 restart) ≡ clockOf (inWait 30 restart)
+  -- it hits here, with a clock of the processor, and every call refuses the device
   pub hits : recheckHits enabledOnEmptyBlock ≡ true
+  pub kind : clockWithRecheck enabledOnEmptyBlock .kind ≡ cpuClock
   pub access : (sum port : ℕ) → accessRefusal enabledOnEmptyBlock sum port ≡ 1
   pub grant : (sum memory latches n : ℕ) → lentRefusal enabledOnEmptyBlock sum memory latches n ≡ 1
 
