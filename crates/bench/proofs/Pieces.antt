@@ -95,6 +95,10 @@ module _ (xs ys : List ℕ) (ended : Bool) where
       g .progress ≡ 1
       → gathered s (xs ++ ys) p ended out b ≡ linesBefore (g .lines) (gathered (g .session) (xs ++ ys) (g .next) ended (g .unused) (g .buffers))
 
+  -- the same behind a step
+  abbrev FollowsStep : Outcome → Gathered → Type 0
+  FollowsStep o g = Follows (o .said .step .session) (o .said .step .next) (behindLine o) (o .buffers) g
+
   waiting : (s : Session) (p : ℕ) (out : List ℕ) (b : Buffers (List ℕ)) → Follows s p out b (gatheredOnce (stepOf s xs p false out b))
   unfolding Follows
   waiting s p out b e = let
@@ -107,7 +111,11 @@ module _ (xs ys : List ℕ) (ended : Bool) where
       (λ (n : ℕ). linesBefore (take n (o .said .line)) (gathered (o .said .step .session) (xs ++ ys) (o .said .step .next) ended (drop n (o .said .line)) (o .buffers)))
       (sym (step-bare s xs p false out b e))
 
-  going : (s : Session) (p : ℕ) (out : List ℕ) (b : Buffers (List ℕ)) (g : Gathered) → stepOf s xs p false out b .said .step .progress ≡ 0 → Follows (stepOf s xs p false out b .said .step .session) (stepOf s xs p false out b .said .step .next) (behindLine (stepOf s xs p false out b)) (stepOf s xs p false out b .buffers) g → Follows s p out b (linesBefore (lineIn (stepOf s xs p false out b)) g)
+  going :
+      (s : Session) (p : ℕ) (out : List ℕ) (b : Buffers (List ℕ)) (g : Gathered)
+      → stepOf s xs p false out b .said .step .progress ≡ 0
+      → FollowsStep (stepOf s xs p false out b) g
+      → Follows s p out b (linesBefore (lineIn (stepOf s xs p false out b)) g)
   unfolding Follows from-step
   going s p out b g q f e = let
       o : Outcome = stepOf s xs p false out b

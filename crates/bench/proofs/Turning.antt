@@ -34,15 +34,28 @@ module _ (s : State) (input : List ℕ) (fits : s .have ≤ length input) where
   abbrev pub readInto : ℕ → List ℕ → List ℕ → List ℕ
   readInto count l part = take count l ++ (part ++ drop (length l - count) (drop count l))
 
+  -- the part, as code lends it
+  abbrev pub partOf : ℕ → List ℕ → List ℕ → List ℕ
+  partOf count l part = take (length (readInto count l part) - count) (drop count (readInto count l part))
+
+  -- the state after a read of some bytes behind those kept
+  abbrev readState : Bool → ℕ → Bool → State
+  readState failed have ended =
+      record { session = s .session; at = 0; have = have; ended = ended; stopped = pick failed true (s .stopped) }
+
   module _ {count : ℕ} {l : List ℕ} (part : List ℕ) (k : (count ≡ s .have - s .at) × (l ≡ kept (s .at) (s .have) input)) (size : length l ≡ length input) where
-    read-most : {more : ℕ} → more ≤ length (take (length (readInto count l part) - count) (drop count (readInto count l part))) → more ≤ length part
+    read-most : {more : ℕ} → more ≤ length (partOf count l part) → more ≤ length part
     read-most {more} h = let
         rest : List ℕ = drop (length l - count) (drop count l)
         in
         let tail : drop count (readInto count l part) ≡ part ++ rest = drop-at (take count l) (part ++ rest) count (length-take-le count l (omega (arith, k .0))) in
         omega (arith, h, length-take (length (readInto count l part) - count) (drop count (readInto count l part)), ap length tail, length-append part rest, ap length (tail-behind count l))
 
-    pub refilled : (failed : Bool) {more : ℕ} {ended : Bool} → more ≤ length (take (length (readInto count l part) - count) (drop count (readInto count l part))) → pick failed (s .ended) (pick (eqb more 0) true (s .ended)) ≡ ended → Refilled s input (record { session = s .session; at = 0; have = count + more; ended = ended; stopped = pick failed true (s .stopped) }) (readInto count l part)
+    pub refilled :
+        (failed : Bool) {more : ℕ} {ended : Bool}
+        → more ≤ length (partOf count l part)
+        → pick failed (s .ended) (pick (eqb more 0) true (s .ended)) ≡ ended
+        → Refilled s input (readState failed (count + more) ended) (readInto count l part)
     refilled failed {more} {ended} h e = let
         old : List ℕ = notTaken (s .at) (s .have) input
         in
@@ -53,7 +66,7 @@ module _ (s : State) (input : List ℕ) (fits : s .have ≤ length input) where
           failed = failed;
           new = take more part;
           state =
-              ap (λ (x : Bool). record { session = s .session; at = 0; have = count + more; ended = x; stopped = pick failed true (s .stopped) }) (sym e)
+              ap (readState failed (count + more)) (sym e)
               ∙ ap (λ (m : ℕ). stateWith s failed m more) count-old
               ∙ ap (stateWith s failed (length old)) (sym (length-take-le more part most));
           bytes =
@@ -104,7 +117,11 @@ module _ (s : State) (input output : List ℕ) (b : Buffers (List ℕ)) (fits : 
   last-progress : w .progress ≡ gatheredIn s input output b .progress
   last-progress = ap (λ (x : Left). x .worked .progress) e
 
-  turned : (r : Left → State) (written : Bool) {input′ : List ℕ} → NextTurn written s (gatheredIn s input output b) input (r (leftBy (gatheredIn s input output b))) input′ → r (leftBy (gatheredIn s input output b)) .have ≤ length input′ → Turned s (gatheredIn s input output b) input (r (left w o m l)) input′ o (borrowed m l)
+  turned :
+      (r : Left → State) (written : Bool) {input′ : List ℕ}
+      → NextTurn written s (gatheredIn s input output b) input (r (leftBy (gatheredIn s input output b))) input′
+      → r (leftBy (gatheredIn s input output b)) .have ≤ length input′
+      → Turned s (gatheredIn s input output b) input (r (left w o m l)) input′ o (borrowed m l)
   turned r written {input′} next h =
       subst (λ (x : Left). Turned s (gatheredIn s input output b) input (r x) input′ (x .output) (x .buffers)) (sym e)
       (record { output = refl; buffers = refl; written = written; next = next; fits = h })

@@ -36,7 +36,10 @@ module _ (filled : ℕ) (s : Session) (xs : List ℕ) (have p : ℕ) (ended : Bo
   abbrev pub lent : List ℕ
   lent = take (length out - filled) (drop filled out)
 
-  pub behind-lines : {r : Step} {line m l : List ℕ} → (outcome r line m l ≡ stepOf s (take (have - 0) xs) p ended lent b) × (r .length ≤ length lent) → (outcome r (take filled out ++ (line ++ drop (length out - filled) (drop filled out))) m l ≡ stepBehind filled s (take have xs) p ended out b) × (filled + r .length ≤ length out)
+  pub behind-lines :
+      {r : Step} {line m l : List ℕ}
+      → (outcome r line m l ≡ stepOf s (take (have - 0) xs) p ended lent b) × (r .length ≤ length lent)
+      → (outcome r (take filled out ++ (line ++ drop (length out - filled) (drop filled out))) m l ≡ stepBehind filled s (take have xs) p ended out b) × (filled + r .length ≤ length out)
   unfolding stepBehind
   behind-lines {r} {line} {m} {l} e = (
     ap (λ (x : List ℕ). outcome r (take filled out ++ (line ++ x)) m l) (tail-behind filled out)
@@ -134,7 +137,10 @@ module _ (xs : List ℕ) (ended : Bool) where
   abbrev pub allOf : ℕ → Outcome → Gathered
   allOf place o = linesBefore (take place (o .said .line)) (aheadOf o (drop place (o .said .line)))
 
-  behind-first : (filled : ℕ) (s : Session) (p : ℕ) (out : List ℕ) (b : Buffers (List ℕ)) → filled ≤ length out → allOf (filled + stepOf s xs p ended (drop filled out) b .said .step .length) (stepBehind filled s xs p ended out b) ≡ linesBefore (take filled out) (gathered s xs p ended (drop filled out) b)
+  behind-first :
+      (filled : ℕ) (s : Session) (p : ℕ) (out : List ℕ) (b : Buffers (List ℕ)) → filled ≤ length out
+      → allOf (filled + stepOf s xs p ended (drop filled out) b .said .step .length) (stepBehind filled s xs p ended out b)
+      ≡ linesBefore (take filled out) (gathered s xs p ended (drop filled out) b)
   unfolding stepBehind
   behind-first filled s p out b h = let
       o : Outcome = stepOf s xs p ended (drop filled out) b

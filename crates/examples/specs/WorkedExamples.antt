@@ -381,6 +381,18 @@ table =
     ∷ enabled true
     ∷ counter 0
     ∷ [])))
+    -- length 0 in a wait without auto restart: the same end
+    ∷ row "length 0 without auto restart"
+    (send 0x6B (program 0x1000 2 (0x22 ∷ 0x01 ∷ []) 0xCD 0x2000 0x82)
+    ∷ clocks 10
+    ∷ send 0x6B (0x65 ∷ 0x00 ∷ 0x00 ∷ [])
+    ∷ count 0
+    ∷ (endsWithTheSlot ++
+    (clocks 5
+    ∷ counter 1
+    ∷ pointers 0x1001 0x2001
+    ∷ counts 4 0 33
+    ∷ [])))
     -- length lowered to the counter in a wait: the wait goes on, and the slot's last clock ends the block
     ∷ row "length lowered to the counter"
     (send 0x6B (program 0x1000 4 (0x22 ∷ 0x01 ∷ []) 0xCD 0x2000 0x82)

@@ -47,10 +47,15 @@ module _ (k : ℕ) (xs : List ℕ) where
     behind-moves ended = lift moved _ _ _ _ refl (none-moves 5 refl) (none-moves 0 refl)
 
     -- a record that is no memory record, and one that is
-    found-moves : (number n : ℕ) {w w′ byte byte′ clocks clocks′ : ℕ} → eqb number 4 ≡ false → w ≡ w′ → byte ≡ byte′ → clocks ≡ clocks′ → _≡_ {A = Record} (record { number = number; word = w; byte = byte; clocks = clocks; start = 0; next = q + n }) (moved (record { number = number; word = w′; byte = byte′; clocks = clocks′; start = 0; next = p + n }))
+    abbrev found : ℕ → ℕ → ℕ → ℕ → ℕ → Record
+    found number w byte clocks end = record { number = number; word = w; byte = byte; clocks = clocks; start = 0; next = end }
+
+    found-moves :
+        (number n : ℕ) {w w′ byte byte′ clocks clocks′ : ℕ} → eqb number 4 ≡ false → w ≡ w′ → byte ≡ byte′ → clocks ≡ clocks′
+        → found number w byte clocks (q + n) ≡ moved (found number w′ byte′ clocks′ (p + n))
     unfolding moved pick
     found-moves number n h f g c =
-        simp h (λ i. record { number = number; word = f i; byte = g i; clocks = c i; start = 0; next = on n i })
+        simp h (λ i. found number (f i) (g i) (c i) (on n i))
 
     memory-found : (n : ℕ) → _≡_ {A = Record} (record { number = 4; word = word xs (q + 3); byte = 0; clocks = 0; start = q + 5; next = q + 2 + n }) (moved (record { number = 4; word = word (drop k xs) (p + 3); byte = 0; clocks = 0; start = p + 5; next = p + 2 + n }))
     unfolding moved pick

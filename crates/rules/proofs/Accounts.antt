@@ -5,7 +5,7 @@ use Prim.Native.Nat.{ℕ, zero, suc, _+_}
 use native.Mathlib.Omega.{arith}
 use native.Mathlib.Nat.{add-zero, zero-add, add-assoc}
 use mathlib.Core.Path.{_≡_, refl, sym, _∙_, ap, subst}
-use mathlib.Core.Bool.{Bool, true, false}
+use mathlib.Core.Bool.{Bool}
 use mathlib.Core.List.{List, [], _∷_}
 use lib.Dec.{eqb}
 use borrow.Author.Tests.{eqb-true, eqb-false, ne-eqb}
@@ -19,21 +19,15 @@ use Rattle.rules.specs.World.{World, System, Note, step, note, stepCount
 use Rattle.rules.specs.Refusals.{accessRefusal, grantRefusal}
 use Rattle.rules.specs.Calls.{Reply, Answer, refused, unlessRefused, writeReply, readReply, beside, write, read, grantNumber, grant, grantBy}
 use Rattle.rules.specs.Entries.{Outside, Entry, portWrite, portRead, clockGrant, otherGrant, outsideChange, besideBuffers, grantOtherBy, enter, run, systemAtPowerOn, runBy}
-use Rattle.rules.specs.History.{Event, clockNoted, counterZeroed, Past, withCore, writePassed, clockPassed, clocksPassed, grantPassed, notedUnless, noteEntry, history, pastAtPowerOn, clocksPassedBy, historyBy}
+use Rattle.rules.specs.History.{Event, clockNoted, counterZeroed, Past, withCore, writePassed, clockPassed, clocksPassed, grantPassed, notedUnless, noteEntry, history, pastAtPowerOn, clocksPassedBy, grantNotedBy, historyBy}
 use Rattle.rules.specs.Accounts.{ofKind, clocksNoted, bytesOf, bytesNoted, heldBefore, zeroedNoted, clocksAsked, clocksAccepted, numbersOf, Demand3}
 use Rattle.rules.specs.declared.Clocks.{Clocks}
-use Rattle.rules.proofs.Choice.{pick-cases, pick-both, pick-true, pick-false, pick-ap}
+use Rattle.rules.proofs.Choice.{pick-cases, pick-both, both-picked, pick-true, pick-false, pick-ap}
 use Rattle.rules.proofs.World.{clocked-zero, clocked-suc, clocked-total}
 use Rattle.rules.proofs.Calls.{granted, grant-refuses}
 use Rattle.rules.proofs.Counter.{write-zero, write-same, read-same, clock-balanced}
 use Rattle.rules.proofs.Splitting.{grant-splits}
 use Rattle.rules.proofs.Entries.{reached-valid}
-
--- two choices by one test
-both-picked {ℓ κ μ} : {X : Type ℓ} {Y : Type κ} (R : X → Y → Type μ) (t : Bool) (x y : X) (u v : Y) → (t ≡ true → R x u) → (t ≡ false → R y v) → R (pick t x y) (pick t u v)
-unfolding pick
-both-picked R true x y u v f g = f refl
-both-picked R false x y u v f g = g refl
 
 -- ---- the counts and the counter against the events
 
@@ -84,6 +78,10 @@ pub record Agree {M : Type 0} (s : System M) (p : Past M) : Type 0 where
 abbrev pastOf : {M : Type 0} → System M → List Event → Past M
 pastOf s es = record { world = s .world; sum = total (s .clocks); events = es }
 
+-- the counts and the counter of a system against events
+abbrev CountsOf : {M : Type 0} → System M → List Event → Type 0
+CountsOf s es = Counts (s .clocks) es (s .world .core .block .counter)
+
 -- what one entry keeps, where it asks for some clocks and the history gives it this number
 pub record Step {M : Type 0} (asked : ℕ) (s : System M) (a : Answer M) (given : ℕ) (p : Past M) : Type 0 where
   pub number : a .answered .number ≡ given
@@ -133,7 +131,7 @@ module _ {M : Type 0} (σ : Store M) where
 
   -- ---- a port write
 
-  written-agrees : (s : System M) (es : List Event) (port byte : ℕ) → Counts (s .clocks) es (s .world .core .block .counter) → Agree (record { world = record { core = written port byte (s .world .core); buffers = s .world .buffers }; clocks = s .clocks }) (writePassed port byte (pastOf s es))
+  written-agrees : (s : System M) (es : List Event) (port byte : ℕ) → CountsOf s es → Agree (record { world = record { core = written port byte (s .world .core); buffers = s .world .buffers }; clocks = s .clocks }) (writePassed port byte (pastOf s es))
   unfolding writePassed
   written-agrees s es port byte c =
       pick-cases
@@ -143,10 +141,10 @@ module _ {M : Type 0} (σ : Store M) where
       (λ z. record { world = refl; sum = refl; counts = counts-same _ es _ _ (write-same port byte (s .world .core) z) c })
 
   -- nothing has changed
-  as-before : (s : System M) (es : List Event) → Counts (s .clocks) es (s .world .core .block .counter) → Agree s (pastOf s es)
+  as-before : (s : System M) (es : List Event) → CountsOf s es → Agree s (pastOf s es)
   as-before s es c = record { world = refl; sum = refl; counts = c }
 
-  write-step : (s : System M) (es : List Event) (port byte n : ℕ) → n ≡ accessRefusal (s .world .core) (total (s .clocks)) port → Counts (s .clocks) es (s .world .core .block .counter) → Step 0 s (write s port byte) n (notedUnless n (writePassed port byte (pastOf s es)) (pastOf s es) .past)
+  write-step : (s : System M) (es : List Event) (port byte n : ℕ) → n ≡ accessRefusal (s .world .core) (total (s .clocks)) port → CountsOf s es → Step 0 s (write s port byte) n (notedUnless n (writePassed port byte (pastOf s es)) (pastOf s es) .past)
   unfolding writeReply unlessRefused notedUnless
   write-step s es port byte n e c =
       rw e
@@ -155,7 +153,7 @@ module _ {M : Type 0} (σ : Store M) where
       (λ d. record { number = sym (eqb-true _ _ d); agree = written-agrees s es port byte c; sum = no-clocks _ _ })
       (λ d. record { number = refl; agree = as-before s es c; sum = no-clocks _ _ }))
 
-  read-step : (s : System M) (es : List Event) (port n : ℕ) → n ≡ accessRefusal (s .world .core) (total (s .clocks)) port → Counts (s .clocks) es (s .world .core .block .counter) → Step 0 s (read s port) n (notedUnless n (withCore (readByte (s .world .core) .core) (pastOf s es)) (pastOf s es) .past)
+  read-step : (s : System M) (es : List Event) (port n : ℕ) → n ≡ accessRefusal (s .world .core) (total (s .clocks)) port → CountsOf s es → Step 0 s (read s port) n (notedUnless n (withCore (readByte (s .world .core) .core) (pastOf s es)) (pastOf s es) .past)
   unfolding readReply unlessRefused notedUnless
   read-step s es port n e c =
       rw e
@@ -171,13 +169,13 @@ module _ {M : Type 0} (σ : Store M) where
 
   -- ---- a grant
 
-  granted-agrees : (s : System M) (es : List Event) (n : ℕ) → Counts (s .clocks) es (s .world .core .block .counter) → Agree (clocked σ n s) (grantPassed σ n (pastOf s es))
+  granted-agrees : (s : System M) (es : List Event) (n : ℕ) → CountsOf s es → Agree (clocked σ n s) (grantPassed σ n (pastOf s es))
   granted-agrees s es n c =
       let p : Past M = record { world = s .world; sum = total (s .clocks) + n; events = es } in
       let k = clocks-agree n s p (record { world = refl; counts = c }) in
       record { world = k .world; sum = clocked-total σ n s ∙ sym (clocks-sum n p); counts = k .counts }
 
-  own-step : (s : System M) (es : List Event) (n : ℕ) → Counts (s .clocks) es (s .world .core .block .counter) → Step n s (grant σ s n) (grantNumber σ s n) (notedUnless (grantNumber σ s n) (grantPassed σ n (pastOf s es)) (pastOf s es) .past)
+  own-step : (s : System M) (es : List Event) (n : ℕ) → CountsOf s es → Step n s (grant σ s n) (grantNumber σ s n) (grantNotedBy clockOf σ (s .world .buffers) n (pastOf s es) .past)
   unfolding grantBy notedUnless
   own-step s es n c =
       both-picked (λ (a : Answer M) (q : Past M). Step n s a (grantNumber σ s n) q) _ _ _ _ _
@@ -195,10 +193,12 @@ module _ {M C : Type 0} (σ : Store M) (ω : Outside M C) where
       ap (λ (a : Answer M). record { answered = a .answered; system = besideBuffers (s .world .buffers) (a .system) })
       (grant-refuses σ (besideBuffers b s) n (otherNumber s n b) refl wrong)
 
-  other-step : (s : System M) (es : List Event) (n : ℕ) (b : Buffers M) → (otherNumber s n b ≡ 0 → ⊥) → Counts (s .clocks) es (s .world .core .block .counter) → Step n s (grantOtherBy clockOf σ s n b) (otherNumber s n b) (notedUnless (otherNumber s n b) (grantPassed σ n (pastOf s es)) (pastOf s es) .past)
+  other-step :
+      (s : System M) (es : List Event) (n : ℕ) (b : Buffers M) → (otherNumber s n b ≡ 0 → ⊥) → CountsOf s es
+      → Step n s (grantOtherBy clockOf σ s n b) (otherNumber s n b) (grantNotedBy clockOf σ b n (pastOf s es) .past)
   unfolding notedUnless
   other-step s es n b wrong c =
-      subst (λ (a : Answer M). Step n s a (otherNumber s n b) (notedUnless (otherNumber s n b) (grantPassed σ n (pastOf s es)) (pastOf s es) .past))
+      subst (λ (a : Answer M). Step n s a (otherNumber s n b) (grantNotedBy clockOf σ b n (pastOf s es) .past))
       (other-answer s n b wrong)
       (subst (λ (p : Past M). Step n s (record { answered = refused (otherNumber s n b); system = s }) (otherNumber s n b) p)
       (sym (pick-false _ _ _ (ne-eqb _ _ wrong)))
@@ -206,7 +206,7 @@ module _ {M C : Type 0} (σ : Store M) (ω : Outside M C) where
 
   -- ---- one entry
 
-  entry-literal : (e : Entry σ C) (s : System M) (es : List Event) → Counts (s .clocks) es (s .world .core .block .counter) → Step (clocksAsked e) s (enter σ ω e s) (noteEntry σ ω e (pastOf s es) .number) (noteEntry σ ω e (pastOf s es) .past)
+  entry-literal : (e : Entry σ C) (s : System M) (es : List Event) → CountsOf s es → Step (clocksAsked e) s (enter σ ω e s) (noteEntry σ ω e (pastOf s es) .number) (noteEntry σ ω e (pastOf s es) .past)
   unfolding notedUnless
   entry-literal (portWrite port byte) s es c = write-step σ s es port byte _ refl c
   entry-literal (portRead port) s es c = read-step σ s es port _ refl c

@@ -32,6 +32,12 @@ pick-cases P false x y f g = g refl
 pub pick-both {ℓ κ} : {X : Type ℓ} (P : X → Type κ) (t : Bool) (x y : X) → P x → P y → P (pick t x y)
 pick-both P t x y p q = pick-cases P t x y (λ e. p) (λ e. q)
 
+-- two choices by one test
+pub both-picked {ℓ κ μ} : {X : Type ℓ} {Y : Type κ} (R : X → Y → Type μ) (t : Bool) (x y : X) (u v : Y) → (t ≡ true → R x u) → (t ≡ false → R y v) → R (pick t x y) (pick t u v)
+unfolding pick
+both-picked R true x y u v f g = f refl
+both-picked R false x y u v f g = g refl
+
 -- a function of a choice
 pub pick-ap {ℓ κ} : {X : Type ℓ} {Y : Type κ} (f : X → Y) (t : Bool) (x y : X) → f (pick t x y) ≡ pick t (f x) (f y)
 unfolding pick
@@ -70,6 +76,11 @@ fails {s} e h = sym e ∙ not-true s h
 pub either {ℓ} : {X : Type ℓ} (t : Bool) → (t ≡ true → X) → (t ≡ false → X) → X
 either true f g = f refl
 either false f g = g refl
+
+-- what holds of both truth values holds of any
+pub both-ways {ℓ} : (P : Bool → Type ℓ) → P true → P false → (t : Bool) → P t
+both-ways P p q true = p
+both-ways P p q false = q
 
 -- ---- every test holds
 

@@ -10,23 +10,23 @@ use mathlib.Core.Option.{none}
 use mathlib.Core.List.{List, [], _∷_}
 use lib.Dec.{eqb, ltb}
 use borrow.Author.Tests.{eqb-true, eqb-false, eq-eqb, ne-eqb, ltb-true}
-use Rattle.rules.specs.Choice.{pick, every, firstHit}
+use Rattle.rules.specs.Choice.{every, firstHit}
 use Rattle.rules.specs.Parts.{withSlot}
 use Rattle.rules.specs.Blocks.{blockCount, finished}
 use Rattle.rules.specs.Slots.{newSlot}
-use Rattle.rules.specs.Validity.{validCore, valid, total}
+use Rattle.rules.specs.Validity.{validCore, valid}
 use Rattle.rules.specs.Facts.{ValidParts}
-use Rattle.rules.specs.Clock.{cpuClock, counted, Clock, clock, stopped, movedAt, Ending, slotEnd, clockEnd, slotClock, begun, clockOf}
-use Rattle.rules.specs.Buffers.{Store, Buffers, source, destination}
-use Rattle.rules.specs.World.{System, buffersAfter, stepCountedBy, clockedBy, clocked}
+use Rattle.rules.specs.Clock.{cpuClock, Clock, clock, stopped, movedAt, Ending, slotEnd, clockEnd, slotClock, begun, clockOf}
+use Rattle.rules.specs.Buffers.{Store, Buffers}
+use Rattle.rules.specs.World.{System, stepCountedBy, clockedBy, clocked}
 use Rattle.rules.specs.Refusals.{accessRefusal, lentRefusal, grantRefusal}
-use Rattle.rules.specs.Calls.{Answered, Answer, accepted, refused, grantNumber, grantBy, grant}
+use Rattle.rules.specs.Calls.{Answered, Answer, accepted, grantNumber, grantBy, grant}
 use Rattle.rules.specs.Entries.{Outside, Entry, portWrite, portRead, clockGrant, otherGrant, outsideChange, besideBuffers, Run, enterBy, enter, runBy, run, systemAtPowerOn}
-use Rattle.rules.specs.History.{Past, EntryNoted, History, notedUnless, clockPassedBy, clocksPassedBy, clocksPassed, noteEntryBy, noteEntry, historyBy, history}
+use Rattle.rules.specs.History.{Past, EntryNoted, History, notedUnless, grantNotedBy, clockPassedBy, clocksPassedBy, clocksPassed, noteEntryBy, noteEntry, historyBy, history}
 use Rattle.rules.specs.Recheck.{firstClockWithRecheck, clockWithRecheck, recheckHits, RecheckNeverHits, inWait, RecheckNearest, RecheckUnseen}
 use Rattle.rules.specs.Opened.{opened}
 use Rattle.rules.specs.declared.Core.{Core}
-use Rattle.rules.proofs.Choice.{clash, pick-true, pick-false, pick-cases, not-of-false, either, all-true, true-all, every-stop, every-stop-later}
+use Rattle.rules.proofs.Choice.{clash, pick-true, pick-false, pick-cases, both-picked, both-ways, not-of-false, either, all-true, true-all, every-stop, every-stop-later}
 use Rattle.rules.proofs.Blocks.{reloaded-unfinished}
 use Rattle.rules.proofs.Validity.{core-parts, progress-facts}
 use Rattle.rules.proofs.Slots.{unmoved-first}
@@ -150,17 +150,12 @@ grant-hit c sum memory latches n h = pick-true _ _ _ (hit-invalid c sum h)
 -- ---- grants
 
 module _ {M : Type 0} (σ : Store M) where
+  -- a grant is accepted of a valid core alone
+  accepted-unhit : (c : Core) (sum : ℕ) (b : Buffers M) (n : ℕ) → eqb (grantRefusal σ c sum b n) 0 ≡ true → recheckHits c ≡ false
+  accepted-unhit c sum b n e = parts-unhit c (valid-parts c sum (granted σ c sum b n (eqb-true _ _ e) .state))
+
   step-same : (s : System M) → clockWithRecheck (s .world .core) ≡ clockOf (s .world .core) → stepCountedBy clockWithRecheck σ s ≡ stepCountedBy clockOf σ s
-  step-same s e =
-      λ i.
-      record {
-        world =
-            record {
-              core = e i .next;
-              buffers = buffersAfter σ (e i .moves) (source (s .world .core)) (destination (s .world .core)) (s .world .buffers);
-            };
-        clocks = counted (e i .kind) (s .clocks);
-      }
+  step-same s e = ap (λ (x : Clock). stepCountedBy (λ c. x) σ s) e
 
   clocked-same : (n : ℕ) (s : System M) → recheckHits (s .world .core) ≡ false → clockedBy clockWithRecheck σ n s ≡ clocked σ n s
   unfolding clockedBy
@@ -172,12 +167,9 @@ module _ {M : Type 0} (σ : Store M) where
   grants-same : (s : System M) (n : ℕ) → grantBy clockWithRecheck σ s n ≡ grant σ s n
   unfolding grantBy
   grants-same s n =
-      either (eqb (grantNumber σ s n) 0)
-      (λ e.
-      let v = valid-parts (s .world .core) (total (s .clocks)) (granted σ _ _ _ n (eqb-true _ _ e) .state) in
-      ap (λ (t : System M). pick (eqb (grantNumber σ s n) 0) (record { answered = accepted 0; system = t }) (record { answered = refused (grantNumber σ s n); system = s }))
-      (clocked-same n s (parts-unhit (s .world .core) v)))
-      (λ e. pick-false _ _ _ e ∙ sym (pick-false _ _ _ e))
+      both-picked _≡_ (eqb (grantNumber σ s n) 0) _ _ _ _
+      (λ e. ap (λ (t : System M). record { answered = accepted 0; system = t }) (clocked-same n s (accepted-unhit _ _ _ n e)))
+      (λ e. refl)
 
 -- ---- runs
 
@@ -220,24 +212,20 @@ module _ {M : Type 0} (σ : Store M) where
       ap (clockPassedBy clockWithRecheck σ) (passed-same n p h)
       ∙ pass-same (clocksPassed σ n p) (clocks-same (clocksPassed σ n p .world .core) (passed-unhit n p h))
 
-  -- a refused grant passes no clock, and an accepted one is of a valid core
-  noted-same : (p q r : Past M) (b : Buffers M) (n : ℕ) → (recheckHits (p .world .core) ≡ false → q ≡ r) → notedUnless (grantRefusal σ (p .world .core) (p .sum) b n) q p ≡ notedUnless (grantRefusal σ (p .world .core) (p .sum) b n) r p
+  noted-same : (b : Buffers M) (n : ℕ) (p : Past M) → grantNotedBy clockWithRecheck σ b n p ≡ grantNotedBy clockOf σ b n p
   unfolding notedUnless
-  noted-same p q r b n f =
-      either (eqb (grantRefusal σ (p .world .core) (p .sum) b n) 0)
-      (λ e.
-      let v = valid-parts (p .world .core) (p .sum) (granted σ _ _ b n (eqb-true _ _ e) .state) in
-      ap (λ (x : Past M). notedUnless (grantRefusal σ (p .world .core) (p .sum) b n) x p) (f (parts-unhit (p .world .core) v)))
-      (λ e.
+  noted-same b n p =
       ap (λ (x : Past M). record { number = grantRefusal σ (p .world .core) (p .sum) b n; past = x })
-      (pick-false _ _ _ e ∙ sym (pick-false _ _ _ e)))
+      (both-picked _≡_ (eqb (grantRefusal σ (p .world .core) (p .sum) b n) 0) _ _ _ _
+      (λ e. passed-same n _ (accepted-unhit σ (p .world .core) (p .sum) b n e))
+      (λ e. refl))
 
 module _ {M C : Type 0} (σ : Store M) (ω : Outside M C) where
   note-same : (e : Entry σ C) (p : Past M) → noteEntryBy clockWithRecheck σ ω e p ≡ noteEntry σ ω e p
   note-same (portWrite port byte) p = refl
   note-same (portRead port) p = refl
-  note-same (clockGrant n) p = noted-same σ p _ _ (p .world .buffers) n (λ h. passed-same σ n (record { world = p .world; sum = p .sum + n; events = p .events }) h)
-  note-same (otherGrant n b wrong) p = noted-same σ p _ _ b n (λ h. passed-same σ n (record { world = p .world; sum = p .sum + n; events = p .events }) h)
+  note-same (clockGrant n) p = noted-same σ (p .world .buffers) n p
+  note-same (otherGrant n b wrong) p = noted-same σ b n p
   note-same (outsideChange x) p = refl
 
   -- the history of a list by its first number
@@ -272,26 +260,14 @@ unfolding opened recheckHits clockWithRecheck firstClockWithRecheck
 recheck-nearest =
     record {
       enable = refl;
-      valid = valid-so;
-      slotEnd = end-so;
-      within = within-so;
+      valid = both-ways (λ (restart : Bool). validCore (inWait 31 restart) ≡ true) refl refl;
+      slotEnd = both-ways (λ (restart : Bool). recheckHits (clockOf (inWait 31 restart) .next) ≡ false) refl refl;
+      within = both-ways (λ (restart : Bool). clockWithRecheck (inWait 30 restart) ≡ clockOf (inWait 30 restart)) refl refl;
       hits = refl;
       kind = refl;
       access = λ sum port. refl;
       grant = λ sum memory latches n. refl;
     }
-  where
-    valid-so : (restart : Bool) → validCore (inWait 31 restart) ≡ true
-    valid-so true = refl
-    valid-so false = refl
-
-    end-so : (restart : Bool) → recheckHits (clockOf (inWait 31 restart) .next) ≡ false
-    end-so true = refl
-    end-so false = refl
-
-    within-so : (restart : Bool) → clockWithRecheck (inWait 30 restart) ≡ clockOf (inWait 30 restart)
-    within-so true = refl
-    within-so false = refl
 
 pub recheck-unseen : RecheckUnseen
 recheck-unseen = record { clock = clocks-same; hit = clock-hit; grants = grants-same; runs = runs-same; histories = histories-same }

@@ -40,7 +40,11 @@ module _ {M C : Type 0} (σ : Store M) (ω : Outside M C) where
       λ i. record { answers = record { number = a .0 i; byte = grant-byte s n i } ∷ h i .answers; system = h i .system }
 
   -- grants that are accepted in turn, between other entries
-  grants-between : (before : List (Entry σ C)) (ns : List ℕ) (after : List (Entry σ C)) (s t : System M) → AcceptedInTurn σ ns (run σ ω before s .system) t → run σ ω (before ++ (grants ns ++ after)) s ≡ record { answers = run σ ω before s .answers ++ (acceptedAnswers ns ++ run σ ω after t .answers); system = run σ ω after t .system }
+  grants-between :
+      (before : List (Entry σ C)) (ns : List ℕ) (after : List (Entry σ C)) (s t : System M)
+      → AcceptedInTurn σ ns (run σ ω before s .system) t
+      → run σ ω (before ++ (grants ns ++ after)) s
+      ≡ record { answers = run σ ω before s .answers ++ (acceptedAnswers ns ++ run σ ω after t .answers); system = run σ ω after t .system }
   grants-between before ns after s t a =
       run-behind σ ω before (grants ns ++ after) s
       ∙ ap
@@ -96,7 +100,11 @@ module _ {M C : Type 0} (σ : Store M) (ω : Outside M C) where
       ∙ ap (grantPassed σ (sumOf ns)) (grant-noted n s p a (h .0))
       ∙ sym (granted-add n (sumOf ns) p)
 
-  grants-noted-between : (before : List (Entry σ C)) (ns : List ℕ) (after : List (Entry σ C)) (s t : System M) (p : Past M) → Agree s p → AcceptedInTurn σ ns (run σ ω before s .system) t → history σ ω (before ++ (grants ns ++ after)) p .past ≡ history σ ω after (grantPassed σ (sumOf ns) (history σ ω before p .past)) .past
+  grants-noted-between :
+      (before : List (Entry σ C)) (ns : List ℕ) (after : List (Entry σ C)) (s t : System M) (p : Past M)
+      → Agree s p → AcceptedInTurn σ ns (run σ ω before s .system) t
+      → history σ ω (before ++ (grants ns ++ after)) p .past
+      ≡ history σ ω after (grantPassed σ (sumOf ns) (history σ ω before p .past)) .past
   grants-noted-between before ns after s t p a h =
       history-behind before (grants ns ++ after) p
       ∙ history-behind (grants ns) after (history σ ω before p .past)

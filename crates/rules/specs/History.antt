@@ -12,7 +12,7 @@ use Rattle.rules.specs.Pending.{isPending}
 use Rattle.rules.specs.Registers.{written}
 use Rattle.rules.specs.Readback.{readByte}
 use Rattle.rules.specs.Clock.{Clock, clockOf}
-use Rattle.rules.specs.Buffers.{Store}
+use Rattle.rules.specs.Buffers.{Store, Buffers}
 use Rattle.rules.specs.World.{World, Note, stepBy, noteBy}
 use Rattle.rules.specs.Refusals.{accessRefusal, grantRefusal}
 use Rattle.rules.specs.Entries.{Outside, Entry, portWrite, portRead, clockGrant, otherGrant, outsideChange}
@@ -78,6 +78,10 @@ module _ {M : Type 0} (κ : Core → Clock) (σ : Store M) where
   abbrev pub grantPassedBy : ℕ → Past M → Past M
   grantPassedBy n p = clocksPassedBy n (record { world = p .world; sum = p .sum + n; events = p .events })
 
+  -- a grant that lends these buffers; refusal 6 is judged by the sum
+  abbrev pub grantNotedBy : Buffers M → ℕ → Past M → EntryNoted M
+  grantNotedBy b n p = notedUnless (grantRefusal σ (p .world .core) (p .sum) b n) (grantPassedBy n p) p
+
 -- an outside change of memory replaces bytes and notes nothing
 abbrev pub changePassed : {M C : Type 0} → Outside M C → C → Past M → Past M
 changePassed ω x p =
@@ -93,16 +97,14 @@ changePassed ω x p =
 
 -- by a clock κ of the core
 module _ {M C : Type 0} (κ : Core → Clock) (σ : Store M) (ω : Outside M C) where
-  -- one entry; refusal 6 is judged by the sum
+  -- one entry
   abbrev pub noteEntryBy : Entry σ C → Past M → EntryNoted M
   noteEntryBy (portWrite port byte) p =
       notedUnless (accessRefusal (p .world .core) (p .sum) port) (writePassed port byte p) p
   noteEntryBy (portRead port) p =
       notedUnless (accessRefusal (p .world .core) (p .sum) port) (withCore (readByte (p .world .core) .core) p) p
-  noteEntryBy (clockGrant n) p =
-      notedUnless (grantRefusal σ (p .world .core) (p .sum) (p .world .buffers) n) (grantPassedBy κ σ n p) p
-  noteEntryBy (otherGrant n b wrong) p =
-      notedUnless (grantRefusal σ (p .world .core) (p .sum) b n) (grantPassedBy κ σ n p) p
+  noteEntryBy (clockGrant n) p = grantNotedBy κ σ (p .world .buffers) n p
+  noteEntryBy (otherGrant n b wrong) p = grantNotedBy κ σ b n p
   noteEntryBy (outsideChange x) p = record { number = 0; past = changePassed ω x p }
 
   -- a list of entries

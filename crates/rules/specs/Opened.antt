@@ -18,6 +18,31 @@ use Rattle.rules.specs.Calls.{unlessRefused, writeReply, readReply, gran
 use Rattle.rules.specs.Entries.{poked, runBy}
 use Rattle.rules.specs.History.{zeroing, writePassed, notedUnless, clocksPassedBy, historyBy}
 
+-- choices and the parts of the core
+unfoldable partsOpened : Unit {0}
+unfolding pick firstOf every any means firstHit cycleOf stepped blockCount finished slotLength slotOf waiting busHeld unmoved
+partsOpened = tt
+
+-- what bytes do, and what they read
+unfoldable bytesOpened : Unit {0}
+unfolding selects ask asked usedUp pendingAfter follows validPending enable readingCommand command wr3 register parameter carriedOut effect statusByte registerByte after seek readByte
+bytesOpened = tt
+
+-- which devices are valid
+unfoldable validOpened : Unit {0}
+unfolding validPort validReadback restingSlot validLength runningSlot validSlot validProgress validCore valid
+validOpened = tt
+
+-- clocks, and the buffers that they work on
+unfoldable clocksOpened : Unit {0}
+unfolding movedAt kindAt slotEnd clockEnd slotClock clockOf placed source destination byteAt put buffersAfter clockedBy
+clocksOpened = tt
+
+-- calls, their lists and histories
+unfoldable callsOpened : Unit {0}
+unfolding accessRefusal lentRefusal grantRefusal unlessRefused writeReply readReply grantBy poked runBy zeroing writePassed notedUnless clocksPassedBy historyBy
+callsOpened = tt
+
 unfoldable pub opened : Unit {0}
-unfolding pick firstOf every any means firstHit cycleOf stepped blockCount finished waiting busHeld unmoved selects ask asked usedUp pendingAfter follows validPending validPort validReadback restingSlot validLength runningSlot validSlot validProgress validCore valid enable readingCommand command wr3 register parameter carriedOut effect statusByte registerByte after seek readByte slotLength slotOf movedAt kindAt slotEnd clockEnd slotClock clockOf source destination byteAt put buffersAfter clockedBy accessRefusal lentRefusal grantRefusal unlessRefused writeReply readReply grantBy poked runBy zeroing writePassed notedUnless clocksPassedBy historyBy placed
+unfolding partsOpened bytesOpened validOpened clocksOpened callsOpened
 opened = tt

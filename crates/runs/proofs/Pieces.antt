@@ -51,7 +51,11 @@ module _ (xs ys : List ℕ) where
 module _ (s : Session) (out : List ℕ) (b : Buffers (List ℕ)) where
   module _ (xs ys : List ℕ) (p : ℕ) (ended : Bool) where
     -- a step that is some function of the bytes stands where that function does
-    by-function : (F : List ℕ → Bool → Outcome) → ((zs : List ℕ) (e : Bool) → stepOf s zs p e out b ≡ F zs e) → ((F xs false .said .step .progress ≡ 1 → ⊥) → F (xs ++ ys) ended ≡ F xs false) → (F xs false .said .step .progress ≡ 1 → next (F xs false) (xs ++ ys) ended ≡ F (xs ++ ys) ended) → StepStands s xs p out b ys ended
+    by-function :
+        (F : List ℕ → Bool → Outcome) → ((zs : List ℕ) (e : Bool) → stepOf s zs p e out b ≡ F zs e)
+        → ((F xs false .said .step .progress ≡ 1 → ⊥) → F (xs ++ ys) ended ≡ F xs false)
+        → (F xs false .said .step .progress ≡ 1 → next (F xs false) (xs ++ ys) ended ≡ F (xs ++ ys) ended)
+        → StepStands s xs p out b ys ended
     by-function F e f g =
         record {
           stands = λ n. e (xs ++ ys) ended ∙ f (λ z. n (ap (λ (o : Outcome). o .said .step .progress) (e xs false) ∙ z)) ∙ sym (e xs false);

@@ -64,7 +64,12 @@ module _ (xs out : List ℕ) (room : 72 ≤ length out) (b : Buffers (List ℕ))
   step-long p e = pick-false _ _ _ (ne-eqb (longLength xs p) 0 e)
 
   -- a record that was carried out
-  onward-carried : (k most : ℕ) (r : Record) (a : Answer (List ℕ)) → ((out′ : List ℕ) → 72 ≤ length out′ → stepsFrom k (inPhase 1 0 (deviceOf (a .system))) xs (r .next) out′ (a .system .world .buffers) ≡ played xs (decodedFrom most xs (r .next)) (a .system)) → onward k xs (carried r a out) ≡ followed most xs r a
+  onward-carried :
+      (k most : ℕ) (r : Record) (a : Answer (List ℕ))
+      → ((out′ : List ℕ) → 72 ≤ length out′
+      → stepsFrom k (inPhase 1 0 (deviceOf (a .system))) xs (r .next) out′ (a .system .world .buffers)
+      ≡ played xs (decodedFrom most xs (r .next)) (a .system))
+      → onward k xs (carried r a out) ≡ followed most xs r a
   unfolding onward pick
   onward-carried k most r a h =
       ap

@@ -59,19 +59,24 @@ module _ (xs : List ℕ) (r : Record) where
     on : Entry flat (List Poke) → Answer (List ℕ)
     on e = enter flat flatOutside e (systemOf d m l)
 
-    pub carried-write : (a : WriteAnswer) → r .number ≡ 1 → a ≡ writeAnswer (writeReply (d .core) (d .clocks) (r .word) (r .byte)) → _≡_ {A = Answer (List ℕ)} (record { answered = record { number = a .number; byte = 0 }; system = systemOf (a .device) m l }) (effect xs r (systemOf d m l))
+    -- an answer beside the two buffers
+    abbrev answerOf : ℕ → ℕ → Device → Answer (List ℕ)
+    answerOf number byte next = record { answered = record { number = number; byte = byte }; system = systemOf next m l }
+
+    pub carried-write :
+        (a : WriteAnswer) → r .number ≡ 1 → a ≡ writeAnswer (writeReply (d .core) (d .clocks) (r .word) (r .byte))
+        → answerOf (a .number) 0 (a .device) ≡ effect xs r (systemOf d m l)
     unfolding on
     carried-write a e h =
-        (λ i. record {
-          answered = record { number = h i .number; byte = sym (write-byte (d .core) (d .clocks) (r .word) (r .byte)) i };
-          system = systemOf (h i .device) m l;
-        })
+        (λ i. answerOf (h i .number) (sym (write-byte (d .core) (d .clocks) (r .word) (r .byte)) i) (h i .device))
         ∙ ap on (entry-write e)
 
-    pub carried-read : (a : ReadAnswer) → (r .number ≡ 1 → ⊥) → r .number ≡ 2 → a ≡ readAnswer (readReply (d .core) (d .clocks) (r .word)) → _≡_ {A = Answer (List ℕ)} (record { answered = record { number = a .number; byte = a .byte }; system = systemOf (a .device) m l }) (effect xs r (systemOf d m l))
+    pub carried-read :
+        (a : ReadAnswer) → (r .number ≡ 1 → ⊥) → r .number ≡ 2 → a ≡ readAnswer (readReply (d .core) (d .clocks) (r .word))
+        → answerOf (a .number) (a .byte) (a .device) ≡ effect xs r (systemOf d m l)
     unfolding on
     carried-read a n e h =
-        (λ i. record { answered = record { number = h i .number; byte = h i .byte }; system = systemOf (h i .device) m l }) ∙ ap on (entry-read n e)
+        (λ i. answerOf (h i .number) (h i .byte) (h i .device)) ∙ ap on (entry-read n e)
 
     pub carried-grant : (a : GrantAnswer) (m′ l′ : List ℕ) → (r .number ≡ 1 → ⊥) → (r .number ≡ 2 → ⊥) → r .number ≡ 3 → grantAnswer a m′ l′ ≡ grant flat (systemOf d m l) (r .clocks) → grantAnswer a m′ l′ ≡ effect xs r (systemOf d m l)
     unfolding on

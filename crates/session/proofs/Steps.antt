@@ -57,7 +57,11 @@ module _ {out out′ bytes : List ℕ} {n : ℕ} {s s′ : Session} where
       let z : n ≡ length bytes = omega (arith, p .place) in
       λ i. record { step = record { progress = progress; fault = fault; next = next; length = z i; session = e i }; line = p .list i }
 
-pub carried-put : (r : Record) {out out′ m l : List ℕ} {n : ℕ} {s : Session} {a : Answer (List ℕ)} (e : Effect) → effectAnswer e m l ≡ a → 72 ≤ length out → PutLine out (recordLine (r .number) (e .number) (e .byte)) out′ n → s ≡ inPhase 1 0 (e .device) → outcome (record { progress = 0; fault = 0; next = r .next; length = n; session = s }) out′ m l ≡ carried r a out
+pub carried-put :
+    (r : Record) {out out′ m l : List ℕ} {n : ℕ} {s : Session} {a : Answer (List ℕ)} (e : Effect)
+    → effectAnswer e m l ≡ a → 72 ≤ length out
+    → PutLine out (recordLine (r .number) (e .number) (e .byte)) out′ n → s ≡ inPhase 1 0 (e .device)
+    → outcome (record { progress = 0; fault = 0; next = r .next; length = n; session = s }) out′ m l ≡ carried r a out
 carried-put r {out} {out′} {m} {l} e h room p q =
     ap (λ (x : Said). record { said = x; buffers = record { memory = m; latches = l } }) (spoken-put 0 0 (r .next) room p q)
     ∙ ap (λ (x : Answer (List ℕ)). carried r x out) h
