@@ -1,6 +1,7 @@
 -- The recheck hits nowhere. A clock, of whatever core, leaves one at which it does not: within a slot some clock has elapsed,
 -- and a slot's end looks at the block itself. So it could hit on the first clock of a grant alone, and there the core is
--- valid. Where it does not hit, the two clocks are one, and with them grants, runs and histories.
+-- valid. A write is accepted in a wait, when some clock has elapsed, or of a disabled device, which Enable alone enables, with
+-- a look at the block. Where the recheck does not hit, the two clocks are one, and with them grants, runs and histories.
 -- Assumes nothing.
 use Prim.Native.Nat.{ℕ, zero, suc, _+_, _<_}
 use native.Mathlib.Omega.{arith}
@@ -13,86 +14,195 @@ use borrow.Author.Tests.{eqb-true, eqb-false, eq-eqb, ne-eqb, ltb-true}
 use Rattle.rules.specs.Choice.{every, firstHit}
 use Rattle.rules.specs.Parts.{withSlot}
 use Rattle.rules.specs.Blocks.{blockCount, finished}
-use Rattle.rules.specs.Slots.{newSlot}
-use Rattle.rules.specs.Validity.{validCore, valid}
+use Rattle.rules.specs.Slots.{newSlot, busHeld}
+use Rattle.rules.specs.PowerOn.{powerOn}
+use Rattle.rules.specs.Validity.{validCore, valid, total}
 use Rattle.rules.specs.Facts.{ValidParts}
+use Rattle.rules.specs.Commands.{enable, readingCommand, command}
+use Rattle.rules.specs.Registers.{wr3, register, parameter, carriedOut, effect, inMode, written}
+use Rattle.rules.specs.Readback.{Byte, readByte}
 use Rattle.rules.specs.Clock.{cpuClock, Clock, clock, stopped, movedAt, Ending, slotEnd, clockEnd, slotClock, begun, clockOf}
 use Rattle.rules.specs.Buffers.{Store, Buffers}
 use Rattle.rules.specs.World.{System, stepCountedBy, clockedBy, clocked}
 use Rattle.rules.specs.Refusals.{accessRefusal, lentRefusal, grantRefusal}
-use Rattle.rules.specs.Calls.{Answered, Answer, accepted, grantNumber, grantBy, grant}
+use Rattle.rules.specs.Calls.{Answered, Answer, accepted, grantNumber, grantBy, grant, Reply, unlessRefused, writeReply, readReply}
 use Rattle.rules.specs.Entries.{Outside, Entry, portWrite, portRead, clockGrant, otherGrant, outsideChange, besideBuffers, Run, enterBy, enter, runBy, run, systemAtPowerOn}
 use Rattle.rules.specs.History.{Past, EntryNoted, History, notedUnless, grantNotedBy, clockPassedBy, clocksPassedBy, clocksPassed, noteEntryBy, noteEntry, historyBy, history}
 use Rattle.rules.specs.Recheck.{firstClockWithRecheck, clockWithRecheck, recheckHits, RecheckNeverHits, inWait, RecheckNearest, RecheckUnseen}
 use Rattle.rules.specs.Opened.{opened}
+use Rattle.rules.specs.declared.Clocks.{Clocks}
 use Rattle.rules.specs.declared.Core.{Core}
-use Rattle.rules.proofs.Choice.{clash, pick-true, pick-false, pick-cases, both-picked, both-ways, not-of-false, either, all-true, true-all, every-stop, every-stop-later}
+use Rattle.rules.proofs.Choice.{clash, pick-true, pick-false, pick-cases, pick-both, both-picked, _⨾_, below, table, both-ways, not-of-false, either, all-true, true-all, every-stop, every-stop-later}
 use Rattle.rules.proofs.Blocks.{reloaded-unfinished}
-use Rattle.rules.proofs.Validity.{core-parts, progress-facts}
-use Rattle.rules.proofs.Slots.{unmoved-first}
+use Rattle.rules.proofs.Validity.{core-parts, slot-facts, progress-facts}
+use Rattle.rules.proofs.Slots.{unmoved-first, free-settled}
 use Rattle.rules.proofs.Stretches.{clock-first, clock-later}
 use Rattle.rules.proofs.World.{clocked-zero, clocked-suc}
-use Rattle.rules.proofs.Calls.{granted, valid-parts}
-use Rattle.rules.proofs.Entries.{reached-valid}
+use Rattle.rules.proofs.Calls.{access, granted, valid-parts}
 
 -- ---- where it does not hit
 
-off-unhit : (c : Core) → c .enabled ≡ false → recheckHits c ≡ false
+-- the recheck does not hit
+abbrev Unhit : Core → Type 0
+Unhit c = recheckHits c ≡ false
+
+off-unhit : (c : Core) → c .enabled ≡ false → Unhit c
 unfolding recheckHits
 off-unhit c e = every-stop _ _ e
 
-inside-unhit : (c : Core) → (c .slot .elapsed ≡ 0 → ⊥) → recheckHits c ≡ false
+inside-unhit : (c : Core) → (c .slot .elapsed ≡ 0 → ⊥) → Unhit c
 unfolding recheckHits
 inside-unhit c e = every-stop-later _ _ (every-stop _ _ (ne-eqb _ _ e))
 
-unfinished-unhit : (c : Core) → finished (c .block) ≡ false → recheckHits c ≡ false
+unfinished-unhit : (c : Core) → finished (c .block) ≡ false → Unhit c
 unfolding recheckHits
 unfinished-unhit c e = every-stop-later _ _ (every-stop-later _ _ (every-stop _ _ e))
 
 -- not where the block is unfinished as a slot begins
-start-unhit : (c : Core) → (c .enabled ≡ true → c .slot .elapsed ≡ 0 → finished (c .block) ≡ false) → recheckHits c ≡ false
+start-unhit : (c : Core) → (c .enabled ≡ true → c .slot .elapsed ≡ 0 → finished (c .block) ≡ false) → Unhit c
 start-unhit c f =
     either (c .enabled)
     (λ on. either (eqb (c .slot .elapsed) 0) (λ z. unfinished-unhit c (f on (eqb-true _ _ z))) (λ z. inside-unhit c (eqb-false _ _ z)))
     (off-unhit c)
 
 -- and of a valid core this is so
-parts-unhit : (c : Core) → ValidParts c → recheckHits c ≡ false
+parts-unhit : (c : Core) → ValidParts c → Unhit c
 parts-unhit c v = start-unhit c (λ on e. progress-facts _ _ _ (v .progress) on (unmoved-first (c .slot) e))
 
-valid-unhit : (c : Core) → validCore c ≡ true → recheckHits c ≡ false
+valid-unhit : (c : Core) → validCore c ≡ true → Unhit c
 valid-unhit c v = parts-unhit c (core-parts c v)
 
 -- the slot's end has looked at the block itself: unfinished, begun again with some bytes, or disabled
-end-unhit : (c : Core) → recheckHits (slotEnd c .core) ≡ false
+end-unhit : (c : Core) → Unhit (slotEnd c .core)
 unfolding slotEnd
 end-unhit c =
-    pick-cases (λ (x : Ending). recheckHits (x .core) ≡ false) _ _ _
+    pick-cases (λ (x : Ending). Unhit (x .core)) _ _ _
     (λ e.
-    pick-cases (λ (x : Ending). recheckHits (x .core) ≡ false) _ _ _
+    pick-cases (λ (x : Ending). Unhit (x .core)) _ _ _
     (λ (d : every (c .control .restart ∷ ltb 0 (blockCount (c .block)) ∷ []) ≡ true).
     unfinished-unhit _ (reloaded-unfinished (c .block) (ltb-true _ _ (all-true _ d .1 .0))))
     (λ d. off-unhit _ refl))
     (λ e. unfinished-unhit _ e)
 
 -- within a slot some clock has elapsed
-clock-end-unhit : (n : ℕ) (c : Core) → 0 < n → recheckHits (clockEnd n c .core) ≡ false
+clock-end-unhit : (n : ℕ) (c : Core) → 0 < n → Unhit (clockEnd n c .core)
 unfolding clockEnd
 clock-end-unhit n c h =
-    pick-cases (λ (x : Ending). recheckHits (x .core) ≡ false) _ _ _
+    pick-cases (λ (x : Ending). Unhit (x .core)) _ _ _
     (λ e. inside-unhit _ (λ z. omega (arith, z, h)))
     (λ e. end-unhit c)
 
-clock-unhit : (c : Core) → recheckHits (clockOf c .next) ≡ false
+clock-unhit : (c : Core) → Unhit (clockOf c .next)
 unfolding clockOf slotClock
 clock-unhit c =
-    pick-cases (λ (x : Clock). recheckHits (x .next) ≡ false) _ _ _
+    pick-cases (λ (x : Clock). Unhit (x .next)) _ _ _
     (λ on. clock-end-unhit (c .slot .elapsed + 1) (movedAt (c .slot .elapsed + 1) (begun c)) (omega arith))
     (off-unhit c)
 
-clocked-unhit : {M : Type 0} (σ : Store M) (s : System M) (n : ℕ) → recheckHits (s .world .core) ≡ false → recheckHits (clocked σ n s .world .core) ≡ false
+clocked-unhit : {M : Type 0} (σ : Store M) (s : System M) (n : ℕ) → Unhit (s .world .core) → Unhit (clocked σ n s .world .core)
 clocked-unhit σ s zero h = ap (λ (t : System _). recheckHits (t .world .core)) (clocked-zero σ s) ∙ h
 clocked-unhit σ s (suc n) h = ap (λ (t : System _). recheckHits (t .world .core)) (clocked-suc σ n s) ∙ clock-unhit (clocked σ n s .world .core)
+
+-- ---- an accepted write
+
+-- disabled, or within a slot
+abbrev Away : Core → Type 0
+Away c = c .enabled ≡ true → c .slot .elapsed ≡ 0 → ⊥
+
+away-unhit : (c : Core) → Away c → Unhit c
+away-unhit c f = start-unhit c (λ on z. absurd (f on z))
+
+-- so is a valid core while the bus is free
+free-away : (c : Core) → ValidParts c → busHeld c ≡ false → Away c
+free-away c v e on z = free-settled c (slot-facts _ _ (v .slot)) e on (unmoved-first (c .slot) z)
+
+module _ (c : Core) (f : Away c) where
+  enable-unhit : Unhit (enable c)
+  unfolding enable
+  enable-unhit =
+      pick-cases Unhit _ _ _ (λ on. away-unhit c f)
+      (λ e. pick-cases Unhit _ _ _ (λ d. away-unhit _ f) (λ d. unfinished-unhit _ d))
+
+  command-unhit : (byte : ℕ) → Unhit (command byte c)
+  unfolding command readingCommand
+  command-unhit byte =
+      table Unhit
+      (off-unhit _ refl
+      ⨾ away-unhit _ f
+      ⨾ away-unhit _ f
+      ⨾ away-unhit _ f
+      ⨾ away-unhit _ f
+      ⨾ enable-unhit
+      ⨾ off-unhit _ refl
+      ⨾ below (table Unhit (away-unhit _ f ⨾ away-unhit _ f ⨾ away-unhit _ f ⨾ below (away-unhit _ f))))
+
+  register-unhit : (number byte : ℕ) → Unhit (register number byte c)
+  unfolding register wr3
+  register-unhit number byte =
+      table Unhit
+      (away-unhit _ f
+      ⨾ away-unhit _ f
+      ⨾ away-unhit _ f
+      ⨾ pick-both Unhit _ _ _ enable-unhit (off-unhit _ refl)
+      ⨾ away-unhit _ f
+      ⨾ away-unhit _ f
+      ⨾ command-unhit byte
+      ⨾ below (away-unhit _ f))
+
+  parameter-unhit : (code byte : ℕ) → Unhit (parameter code byte c)
+  unfolding parameter
+  parameter-unhit code byte =
+      table Unhit
+      (away-unhit _ f ⨾ away-unhit _ f ⨾ away-unhit _ f ⨾ away-unhit _ f ⨾ away-unhit _ f
+      ⨾ away-unhit _ f ⨾ away-unhit _ f ⨾ away-unhit _ f ⨾ away-unhit _ f ⨾ below (away-unhit _ f))
+
+  carried-unhit : (byte : ℕ) → Unhit (carriedOut byte c)
+  unfolding carriedOut
+  carried-unhit byte = pick-both Unhit _ _ _ (parameter-unhit _ byte) (register-unhit _ byte)
+
+written-unhit : (port byte : ℕ) (c : Core) → Away c → Unhit (written port byte c)
+unfolding effect recheckHits
+written-unhit port byte c f = carried-unhit (inMode port c) f byte
+
+-- ---- a list of calls
+
+read-unhit : (c : Core) → Unhit c → Unhit (readByte c .core)
+unfolding readByte recheckHits
+read-unhit c h = table (λ (b : Byte). Unhit (b .core)) (h ⨾ h ⨾ below h)
+
+-- unless it is refused
+unless-unhit : (number byte : ℕ) (next c : Core) (k : Clocks) → (number ≡ 0 → Unhit next) → Unhit c → Unhit (unlessRefused number byte next c k .core)
+unfolding unlessRefused
+unless-unhit number byte next c k f h = pick-cases (λ (r : Reply). Unhit (r .core)) _ _ _ (λ e. f (eqb-true _ _ e)) (λ e. h)
+
+write-unhit : (c : Core) (k : Clocks) (port byte : ℕ) → Unhit c → Unhit (writeReply c k port byte .core)
+unfolding writeReply
+write-unhit c k port byte h =
+    unless-unhit _ _ _ c k
+    (λ e. let a = access c (total k) port e in written-unhit port byte c (free-away c (valid-parts c (total k) (a .state)) (a .free)))
+    h
+
+reply-unhit : (c : Core) (k : Clocks) (port : ℕ) → Unhit c → Unhit (readReply c k port .core)
+unfolding readReply
+reply-unhit c k port h = unless-unhit _ _ _ c k (λ e. read-unhit c h) h
+
+grant-unhit : {M : Type 0} (σ : Store M) (s : System M) (n : ℕ) → Unhit (s .world .core) → Unhit (grant σ s n .system .world .core)
+unfolding grantBy
+grant-unhit σ s n h =
+    pick-both (λ (a : Answer _). Unhit (a .system .world .core)) _ _ _ (clocked-unhit σ s n h) h
+
+module _ {M C : Type 0} (σ : Store M) (ω : Outside M C) where
+  entry-unhit : (e : Entry σ C) (s : System M) → Unhit (s .world .core) → Unhit (enter σ ω e s .system .world .core)
+  entry-unhit (portWrite port byte) s h = write-unhit (s .world .core) (s .clocks) port byte h
+  entry-unhit (portRead port) s h = reply-unhit (s .world .core) (s .clocks) port h
+  entry-unhit (clockGrant n) s h = grant-unhit σ s n h
+  entry-unhit (otherGrant n b wrong) s h = grant-unhit σ (besideBuffers b s) n h
+  entry-unhit (outsideChange x) s h = h
+
+  run-unhit : (es : List (Entry σ C)) (s : System M) → Unhit (s .world .core) → Unhit (run σ ω es s .system .world .core)
+  unfolding runBy
+  run-unhit [] s h = h
+  run-unhit (e ∷ es) s h = run-unhit es (enter σ ω e s .system) (entry-unhit e s h)
 
 -- ---- the two clocks
 
@@ -113,7 +223,7 @@ later-same : (c : Core) → c .enabled ≡ true → (c .slot .elapsed ≡ 0 → 
 unfolding clockWithRecheck
 later-same c on z = pick-true _ _ _ on ∙ pick-false _ _ _ (ne-eqb _ _ z) ∙ sym (clock-later c on z)
 
-clocks-same : (c : Core) → recheckHits c ≡ false → clockWithRecheck c ≡ clockOf c
+clocks-same : (c : Core) → Unhit c → clockWithRecheck c ≡ clockOf c
 unfolding recheckHits
 clocks-same c h =
     either (c .enabled)
@@ -151,13 +261,13 @@ grant-hit c sum memory latches n h = pick-true _ _ _ (hit-invalid c sum h)
 
 module _ {M : Type 0} (σ : Store M) where
   -- a grant is accepted of a valid core alone
-  accepted-unhit : (c : Core) (sum : ℕ) (b : Buffers M) (n : ℕ) → eqb (grantRefusal σ c sum b n) 0 ≡ true → recheckHits c ≡ false
+  accepted-unhit : (c : Core) (sum : ℕ) (b : Buffers M) (n : ℕ) → eqb (grantRefusal σ c sum b n) 0 ≡ true → Unhit c
   accepted-unhit c sum b n e = parts-unhit c (valid-parts c sum (granted σ c sum b n (eqb-true _ _ e) .state))
 
   step-same : (s : System M) → clockWithRecheck (s .world .core) ≡ clockOf (s .world .core) → stepCountedBy clockWithRecheck σ s ≡ stepCountedBy clockOf σ s
   step-same s e = ap (λ (x : Clock). stepCountedBy (λ c. x) σ s) e
 
-  clocked-same : (n : ℕ) (s : System M) → recheckHits (s .world .core) ≡ false → clockedBy clockWithRecheck σ n s ≡ clocked σ n s
+  clocked-same : (n : ℕ) (s : System M) → Unhit (s .world .core) → clockedBy clockWithRecheck σ n s ≡ clocked σ n s
   unfolding clockedBy
   clocked-same zero s h = refl
   clocked-same (suc n) s h =
@@ -197,7 +307,7 @@ module _ {M C : Type 0} (σ : Store M) (ω : Outside M C) where
 -- ---- histories
 
 module _ {M : Type 0} (σ : Store M) where
-  passed-unhit : (n : ℕ) (p : Past M) → recheckHits (p .world .core) ≡ false → recheckHits (clocksPassed σ n p .world .core) ≡ false
+  passed-unhit : (n : ℕ) (p : Past M) → Unhit (p .world .core) → Unhit (clocksPassed σ n p .world .core)
   unfolding clocksPassedBy
   passed-unhit zero p h = h
   passed-unhit (suc n) p h = clock-unhit (clocksPassed σ n p .world .core)
@@ -205,7 +315,7 @@ module _ {M : Type 0} (σ : Store M) where
   pass-same : (p : Past M) → clockWithRecheck (p .world .core) ≡ clockOf (p .world .core) → clockPassedBy clockWithRecheck σ p ≡ clockPassedBy clockOf σ p
   pass-same p e = ap (λ (x : Clock). clockPassedBy (λ c. x) σ p) e
 
-  passed-same : (n : ℕ) (p : Past M) → recheckHits (p .world .core) ≡ false → clocksPassedBy clockWithRecheck σ n p ≡ clocksPassed σ n p
+  passed-same : (n : ℕ) (p : Past M) → Unhit (p .world .core) → clocksPassedBy clockWithRecheck σ n p ≡ clocksPassed σ n p
   unfolding clocksPassedBy
   passed-same zero p h = refl
   passed-same (suc n) p h =
@@ -248,9 +358,10 @@ recheck-never-hits =
       granted = λ σ s n v. clocked-unhit σ s n (valid-unhit (s .world .core) v);
       clock = clock-unhit;
       reached =
-          λ M C σ ω m l es n b.
-          let k = reached-valid σ ω m l es b in
-          clocked-unhit σ (run σ ω es (systemAtPowerOn m l) .system) n (parts-unhit _ (k .core .valid));
+          λ M C σ ω m l es n.
+          clocked-unhit σ (run σ ω es (systemAtPowerOn m l) .system) n
+          (run-unhit σ ω es (systemAtPowerOn m l) (off-unhit powerOn refl));
+      kept = λ σ ω es s n h. clocked-unhit σ (run σ ω es s .system) n (run-unhit σ ω es s h);
       access = access-hit;
       grant = grant-hit;
     }
@@ -261,7 +372,7 @@ recheck-nearest =
     record {
       enable = refl;
       valid = both-ways (λ (restart : Bool). validCore (inWait 31 restart) ≡ true) refl refl;
-      slotEnd = both-ways (λ (restart : Bool). recheckHits (clockOf (inWait 31 restart) .next) ≡ false) refl refl;
+      slotEnd = both-ways (λ (restart : Bool). Unhit (clockOf (inWait 31 restart) .next)) refl refl;
       within = both-ways (λ (restart : Bool). clockWithRecheck (inWait 30 restart) ≡ clockOf (inWait 30 restart)) refl refl;
       hits = refl;
       kind = refl;

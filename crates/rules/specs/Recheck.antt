@@ -8,7 +8,6 @@ use mathlib.Core.List.{List, [], _∷_}
 use mathlib.Core.Option.{none}
 use lib.Dec.{eqb}
 use Rattle.rules.specs.Choice.{pick, every}
-use Rattle.rules.specs.Bytes.{AreBytes}
 use Rattle.rules.specs.Parts.{withCounter, withRestart, withBlock, withControl, withEnabled, withSlot}
 use Rattle.rules.specs.Blocks.{finished}
 use Rattle.rules.specs.Slots.{newSlot}
@@ -21,7 +20,7 @@ use Rattle.rules.specs.Buffers.{Store}
 use Rattle.rules.specs.World.{System, clocked}
 use Rattle.rules.specs.Refusals.{accessRefusal, lentRefusal}
 use Rattle.rules.specs.Calls.{grantBy, grant}
-use Rattle.rules.specs.Entries.{Outside, Entry, bytesWritten, runBy, run, systemAtPowerOn}
+use Rattle.rules.specs.Entries.{Outside, Entry, runBy, run, systemAtPowerOn}
 use Rattle.rules.specs.History.{Past, historyBy, history}
 use Rattle.rules.specs.declared.Core.{Core}
 
@@ -48,11 +47,15 @@ pub record RecheckNeverHits : Type 1 where
   pub granted : {M : Type 0} (σ : Store M) (s : System M) (n : ℕ) → validCore (s .world .core) ≡ true → recheckHits (clocked σ n s .world .core) ≡ false
   -- after a clock, of any core whatsoever
   pub clock : (c : Core) → recheckHits (clockOf c .next) ≡ false
-  -- where a list of calls ends, writes in a wait among them, nor after any number of clocks from there
+  -- where a list of calls from power-on ends, writes in a wait among them, nor after any number of clocks from there
   pub reached :
       (M C : Type 0) (σ : Store M) (ω : Outside M C) (m : M) (l : List ℕ) (es : List (Entry σ C)) (n : ℕ)
-      → AreBytes (bytesWritten es)
       → recheckHits (clocked σ n (run σ ω es (systemAtPowerOn m l) .system) .world .core) ≡ false
+  -- and so from any system at which it does not hit
+  pub kept :
+      {M C : Type 0} (σ : Store M) (ω : Outside M C) (es : List (Entry σ C)) (s : System M) (n : ℕ)
+      → recheckHits (s .world .core) ≡ false
+      → recheckHits (clocked σ n (run σ ω es s .system) .world .core) ≡ false
   -- a core at which it hits is refused with 1 by every call, whatever is asked
   pub access : (c : Core) (sum port : ℕ) → recheckHits c ≡ true → accessRefusal c sum port ≡ 1
   pub grant : (c : Core) (sum memory latches n : ℕ) → recheckHits c ≡ true → lentRefusal c sum memory latches n ≡ 1
