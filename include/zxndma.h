@@ -64,14 +64,23 @@ typedef struct zxndma_readback {
     bool waiting;     /* a status read is waiting: the next accepted read gives the status */
 } zxndma_readback;
 
-/* The pending parameters, the next one first, 0 behind the last. Codes 1 to 10 are A address low and high, length low and
- * high, A timing, B timing, prescaler, B address low and high, read mask. */
-typedef struct zxndma_pending {
-    uint8_t first;  /* code of the next parameter, 0 for none */
-    uint8_t second; /* code of the one after it, 0 for none */
-    uint8_t third;  /* code of the third, 0 for none */
-    uint8_t fourth; /* code of the fourth, 0 for none */
-} zxndma_pending;
+/* The bits of the pending parameters, in the order in which they come: the lowest set bit is the next one, and 0 is none.
+ * A number is valid if a register, or a B timing byte, can leave these parameters pending: 0 to 15, 16, 32, 64, 128, 256,
+ * 384 (128 and 256) and 512. With any other number the device is not valid.
+ *
+ * These replace codes 1 to 10, in this order, which a device kept as a sequence of four with 0 behind the last. The number
+ * of a sequence from a valid device is the sum of 2 to the power code - 1 over its codes that are not 0. Other sequences
+ * have no number, even if their sum is a valid one: 2, 1 was not valid, and 3 stands for 1, 2. */
+#define ZXNDMA_PENDING_A_ADDRESS_LOW 1
+#define ZXNDMA_PENDING_A_ADDRESS_HIGH 2
+#define ZXNDMA_PENDING_LENGTH_LOW 4
+#define ZXNDMA_PENDING_LENGTH_HIGH 8
+#define ZXNDMA_PENDING_A_TIMING 16
+#define ZXNDMA_PENDING_B_TIMING 32
+#define ZXNDMA_PENDING_PRESCALER 64
+#define ZXNDMA_PENDING_B_ADDRESS_LOW 128
+#define ZXNDMA_PENDING_B_ADDRESS_HIGH 256
+#define ZXNDMA_PENDING_READ_MASK 512
 
 /* The running transfer slot; in a valid device all 0 and continuous while no clock of one has elapsed. */
 typedef struct zxndma_slot {
@@ -96,8 +105,8 @@ typedef struct zxndma_core {
     zxndma_control control;
     zxndma_status status;
     zxndma_readback readback;
-    zxndma_pending pending;
-    bool enabled; /* a slot is running or about to begin */
+    uint16_t pending; /* the pending parameters, by their bits above */
+    bool enabled;     /* a slot is running or about to begin */
     zxndma_slot slot;
 } zxndma_core;
 
@@ -181,11 +190,6 @@ ZXNDMA_FIELD(readback, mask, 0, 1);
 ZXNDMA_FIELD(readback, position, 1, 1);
 ZXNDMA_FIELD(readback, waiting, 2, 1);
 ZXNDMA_SIZE(readback, 3);
-ZXNDMA_FIELD(pending, first, 0, 1);
-ZXNDMA_FIELD(pending, second, 1, 1);
-ZXNDMA_FIELD(pending, third, 2, 1);
-ZXNDMA_FIELD(pending, fourth, 3, 1);
-ZXNDMA_SIZE(pending, 4);
 ZXNDMA_FIELD(slot, elapsed, 0, 2);
 ZXNDMA_FIELD(slot, bus, 2, 2);
 ZXNDMA_FIELD(slot, length, 4, 2);
@@ -201,8 +205,8 @@ ZXNDMA_FIELD(core, block, 16, 12);
 ZXNDMA_FIELD(core, control, 28, 4);
 ZXNDMA_FIELD(core, status, 32, 2);
 ZXNDMA_FIELD(core, readback, 34, 3);
-ZXNDMA_FIELD(core, pending, 37, 4);
-ZXNDMA_FIELD(core, enabled, 41, 1);
+ZXNDMA_FIELD(core, pending, 38, 2);
+ZXNDMA_FIELD(core, enabled, 40, 1);
 ZXNDMA_FIELD(core, slot, 42, 8);
 ZXNDMA_SIZE(core, 52);
 ZXNDMA_FIELD(device, core, 0, 52);

@@ -1,7 +1,8 @@
 //! A program: compares the layout of the device in Rattle, C and Rust.
 //!
 //! How the device and its answers lie in memory: every struct by its size and
-//! every field by its name, type, place in the order, offset and size.
+//! every field by its name, type, place in the order, offset and size. And the
+//! bits of the pending parameters, which have names in C and Rust alone.
 //!
 //! Rattle: the declarations are read, and laid out as `repr(C)` says.
 //! C: the declarations are read, and the offsets and sizes that the header
@@ -27,7 +28,8 @@ use std::process::ExitCode;
 const HELP: &str = "\
 usage: layout HEADER RATTLE...
 Compares the structs of the C header, of the Rattle sources and of the wrapper
-for Rust, and prints how many structs and fields there are, or what differs.
+for Rust, and prints how many structs and fields there are, or what differs. In
+the header and the wrapper it also compares the bits of the pending parameters.
 
   HEADER  include/zxndma.h
   RATTLE  sources with structs, in the order of their crates, the device's last:
@@ -259,7 +261,6 @@ fn rust_layout() -> Layout {
     struct_of!(layout, core.control, Control { forward, prescaler, burst, restart });
     struct_of!(layout, core.status, Status { e, t });
     struct_of!(layout, core.readback, Readback { mask, position, waiting });
-    struct_of!(layout, core.pending, Pending { first, second, third, fourth });
     struct_of!(layout, core.slot, Slot { elapsed, bus, length, burst });
     struct_of!(layout, device.clocks, Clocks { bus, held, cpu });
     struct_of!(
@@ -272,6 +273,50 @@ fn rust_layout() -> Layout {
     struct_of!(layout, device.read(0), ReadAnswer { number, byte, device });
     struct_of!(layout, device.grant(&mut [], &mut [], 0), GrantAnswer { number, device });
     layout
+}
+
+// ---- The bits of the pending parameters ----------------------------------
+
+/// Names and numbers, in their order.
+type Bits = Vec<(String, u16)>;
+
+/// The constants of the wrapper that are named.
+macro_rules! bits_of {
+    ($($name:ident),*) => { vec![$((stringify!($name).into(), zxndma::pending::$name)),*] };
+}
+
+fn rust_bits() -> Bits {
+    bits_of!(
+        A_ADDRESS_LOW,
+        A_ADDRESS_HIGH,
+        LENGTH_LOW,
+        LENGTH_HIGH,
+        A_TIMING,
+        B_TIMING,
+        PRESCALER,
+        B_ADDRESS_LOW,
+        B_ADDRESS_HIGH,
+        READ_MASK
+    )
+}
+
+fn c_bits(header: &str) -> Result<Bits, String> {
+    let defined = header.lines().filter_map(|line| line.strip_prefix("#define ZXNDMA_PENDING_"));
+    let bit = |text: &str| {
+        let (name, number) = text.split_once(' ')?;
+        Some((name.into(), number.parse().ok()?))
+    };
+    defined.map(|text| bit(text).ok_or(format!("not understood: {}", text))).collect()
+}
+
+/// Each is the bit after the one before it, from bit 0 on, and has one name.
+fn same_bits(header: &str) -> Result<usize, String> {
+    let (c, rust) = (c_bits(header)?, rust_bits());
+    let in_order = (0..).zip(&rust).all(|(place, (_, number))| *number == 1 << place);
+    if c != rust || !in_order {
+        return Err(format!("pending parameters in C: {:?}\nin Rust: {:?}", c, rust));
+    }
+    Ok(rust.len())
 }
 
 // ---- Comparing -----------------------------------------------------------
@@ -296,13 +341,21 @@ fn differences(rattle: &Layout, language: &str, other: &Layout) -> Vec<String> {
 fn compare(header: &str, sources: &[&str]) -> Result<String, String> {
     let texts: Result<Vec<String>, String> = sources.iter().map(|path| text(path)).collect();
     let rattle = rattle_layout(&texts?)?;
-    let mut lines = differences(&rattle, "C", &c_layout(&text(header)?)?);
+    let header = text(header)?;
+    let mut lines = differences(&rattle, "C", &c_layout(&header)?);
     lines.extend(differences(&rattle, "Rust", &rust_layout()));
     if !lines.is_empty() {
         return Err(lines.join("\n"));
     }
     let fields: usize = rattle.values().map(|laid| laid.fields.len()).sum();
-    Ok(format!("{} structs, {} fields: the same in Rattle, C and Rust", rattle.len(), fields))
+    let bits = same_bits(&header)?;
+    Ok(format!(
+        "{} structs, {} fields: the same in Rattle, C and Rust; {} bits of pending parameters: \
+         the same in C and Rust",
+        rattle.len(),
+        fields,
+        bits
+    ))
 }
 
 fn text(path: &str) -> Result<String, String> {

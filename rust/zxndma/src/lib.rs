@@ -83,20 +83,43 @@ pub struct Readback {
     pub waiting: bool,
 }
 
-/// The pending parameters, the next one first, 0 behind the last. Codes 1 to
-/// 10 are A address low and high, length low and high, A timing, B timing,
-/// prescaler, B address low and high, read mask.
-#[repr(C)]
-#[derive(Clone, Copy, PartialEq, Eq, Debug)]
-pub struct Pending {
-    /// Code of the next parameter, 0 for none.
-    pub first: u8,
-    /// Code of the one after it, 0 for none.
-    pub second: u8,
-    /// Code of the third, 0 for none.
-    pub third: u8,
-    /// Code of the fourth, 0 for none.
-    pub fourth: u8,
+/// The pending parameters as one number: a bit for each.
+pub mod pending {
+    // The bits, in the order in which the parameters come.
+    pub const A_ADDRESS_LOW: u16 = 1;
+    pub const A_ADDRESS_HIGH: u16 = 2;
+    pub const LENGTH_LOW: u16 = 4;
+    pub const LENGTH_HIGH: u16 = 8;
+    pub const A_TIMING: u16 = 16;
+    pub const B_TIMING: u16 = 32;
+    pub const PRESCALER: u16 = 64;
+    pub const B_ADDRESS_LOW: u16 = 128;
+    pub const B_ADDRESS_HIGH: u16 = 256;
+    pub const READ_MASK: u16 = 512;
+
+    /// The bit of the next parameter, which is the lowest one set; 0 for none.
+    pub fn next(pending: u16) -> u16 {
+        pending & pending.wrapping_neg()
+    }
+
+    /// The number of a sequence of codes, as which a device kept its pending
+    /// parameters before: the next one first, 0 behind the last, and codes 1 to
+    /// 10 in the order of the bits. None for a sequence that no valid device
+    /// held, also where its bits would be a valid number.
+    pub fn from_codes(codes: [u8; 4]) -> Option<u16> {
+        let count = codes.iter().take_while(|code| **code != 0).count();
+        let (held, behind) = codes.split_at(count);
+        let ends = behind.iter().all(|code| *code == 0);
+        let ascends = held.windows(2).all(|pair| pair[0] < pair[1]);
+        let together = match *held {
+            [] => true,
+            [alone] => alone <= 10,
+            // All of WR0, or both of WR4.
+            [first, .., last] => last <= 4 || (first, last) == (8, 9),
+        };
+        let number = || held.iter().fold(0, |number, code| number | 1 << (code - 1));
+        (ends && ascends && together).then(number)
+    }
 }
 
 /// The running transfer slot; in a valid device all 0 and continuous while no
@@ -136,7 +159,11 @@ pub struct Core {
     pub control: Control,
     pub status: Status,
     pub readback: Readback,
-    pub pending: Pending,
+    /// The pending parameters, a bit for each, as `pending` names them: the
+    /// lowest set bit is the next one, and 0 is none. Valid are 0 to 15, 16,
+    /// 32, 64, 128, 256, 384 (128 and 256) and 512: what a register, or a B
+    /// timing byte, can leave pending.
+    pub pending: u16,
     /// A slot is running or about to begin.
     pub enabled: bool,
     pub slot: Slot,
