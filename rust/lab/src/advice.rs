@@ -11,11 +11,11 @@ mod trial;
 
 use crate::record::{Item, Record, Step};
 use crate::trace::{passed, Answer, Event, Trace};
-use crate::words::{self, grouped, many, Register, PRESCALER, READ_MASK};
+use crate::words::{self, grouped, many, Register};
 use block::Block;
 use std::fmt;
 use trial::{Freed, Trial, BUS_HELD};
-use zxndma::{Core, Device};
+use zxndma::{pending, Core, Device};
 
 /// What advice is about.
 #[derive(Clone, Copy, PartialEq, Eq, Debug)]
@@ -71,10 +71,9 @@ impl fmt::Display for Advice {
     }
 }
 
-/// Codes of pending parameters.
-const A_ADDRESS: [u8; 2] = [1, 2];
-const B_TIMING: u8 = 6;
-const B_ADDRESS: [u8; 2] = [8, 9];
+/// Bits of pending parameters.
+const A_ADDRESS: u16 = pending::A_ADDRESS_LOW | pending::A_ADDRESS_HIGH;
+const B_ADDRESS: u16 = pending::B_ADDRESS_LOW | pending::B_ADDRESS_HIGH;
 /// Writes that are looked at for a command that may come again: no program of
 /// the DMA is as long.
 const LOOK_AHEAD: usize = 64;
@@ -159,7 +158,7 @@ impl Advisor {
     pub fn end(&mut self, trace: &Trace) -> Vec<Advice> {
         let core = &trace.device().core;
         let mut found = Vec::new();
-        if let Some(name) = words::parameter(core.pending.first) {
+        if let Some(name) = words::parameter(pending::next(core.pending)) {
             let (record, byte) = self.asked;
             found.push(advice(
                 Topic::ParameterMissing,
@@ -192,10 +191,10 @@ impl Advisor {
 
     fn written(&mut self, byte: u8, answer: &Answer, following: &[Item], found: &mut Vec<Advice>) {
         let (was, is) = (&answer.before.core, &answer.after.core);
-        if was.pending.first != 0 {
+        if was.pending != 0 {
             found.extend(self.parameter(byte, answer, following));
         } else {
-            if is.pending.first != 0 {
+            if is.pending != 0 {
                 self.asked = (self.records, byte);
             }
             self.register(byte, answer, found);
@@ -206,18 +205,18 @@ impl Advisor {
     }
 
     fn parameter(&mut self, byte: u8, answer: &Answer, following: &[Item]) -> Option<Advice> {
-        let pending = answer.before.core.pending.first;
-        let advice = self.command_as_parameter(pending, byte, &answer.after, following);
-        match pending {
-            PRESCALER => {
+        let bit = pending::next(answer.before.core.pending);
+        let advice = self.command_as_parameter(bit, byte, &answer.after, following);
+        match bit {
+            pending::PRESCALER => {
                 self.prescaler = self.records;
                 self.program.prescaler = true;
             }
             // It may ask for the prescaler.
-            B_TIMING => self.asked = (self.records, byte),
-            code => {
-                self.unloaded[0] |= A_ADDRESS.contains(&code);
-                self.unloaded[1] |= B_ADDRESS.contains(&code);
+            pending::B_TIMING => self.asked = (self.records, byte),
+            _ => {
+                self.unloaded[0] |= A_ADDRESS & bit != 0;
+                self.unloaded[1] |= B_ADDRESS & bit != 0;
             }
         }
         advice
@@ -228,7 +227,7 @@ impl Advisor {
     /// a program begins with it; in a mask, which has no bit 7, each is one.
     fn command_as_parameter(
         &self,
-        pending: u8,
+        bit: u16,
         byte: u8,
         after: &Device,
         following: &[Item],
@@ -236,10 +235,10 @@ impl Advisor {
         let name = words::command_name(byte)?;
         let needed = byte == words::LOAD || byte == words::ENABLE || !self.writing;
         let missing = needed && !carried_out(byte, *after, following);
-        if pending != READ_MASK && !missing {
+        if bit != pending::READ_MASK && !missing {
             return None;
         }
-        let parameter = words::parameter(pending)?;
+        let parameter = words::parameter(bit)?;
         let (record, asked) = self.asked;
         Some(advice(
             Topic::CommandAsParameter,
@@ -255,7 +254,7 @@ impl Advisor {
     fn register(&mut self, byte: u8, answer: &Answer, found: &mut Vec<Advice>) {
         let (was, is) = (&answer.before.core, &answer.after.core);
         match words::selected(byte) {
-            Register::Wr0 if is.pending.first != 0 => self.program.direction = Some(self.records),
+            Register::Wr0 if is.pending != 0 => self.program.direction = Some(self.records),
             Register::Wr0 if was.control.forward != is.control.forward => {
                 found.extend(self.direction_turned(byte, is));
             }
@@ -468,7 +467,7 @@ fn carried_out(command: u8, after: Device, following: &[Item]) -> bool {
         match &item.step {
             Step::Record(Record::Write { port, byte }) => {
                 let written = device.write(*port, *byte);
-                if *byte == command && device.core.pending.first == 0 && written.number == 0 {
+                if *byte == command && device.core.pending == 0 && written.number == 0 {
                     return true;
                 }
                 device = written.device;

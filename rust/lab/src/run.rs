@@ -377,7 +377,7 @@ fn summary(trace: &Trace, detail: Detail, out: &mut dyn Write) -> io::Result<()>
     writeln!(out, "Moved: {moves}; {ends}, {restarts}")?;
     memory_written(trace, detail, out)?;
     latches_written(trace, detail, out)?;
-    let pending = words::pending(&device.core.pending);
+    let pending = words::pending_names(device.core.pending);
     if !pending.is_empty() {
         writeln!(out, "Pending: {}", pending.join(", "))?;
     }

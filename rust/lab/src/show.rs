@@ -121,7 +121,7 @@ impl Writes {
         } else {
             self.comments.push(answer_in_words(&Record::Write { port, byte }, answer));
         }
-        self.open = accepted && answer.after.core.pending.first != 0;
+        self.open = accepted && answer.after.core.pending != 0;
         Ok(())
     }
 

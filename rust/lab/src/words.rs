@@ -4,9 +4,9 @@
 
 use crate::trace::{source_and_destination, End};
 use std::fmt;
-use zxndma::{Core, Device, Pending, Port};
+use zxndma::{pending, Core, Device, Port};
 
-/// Of the codes 1 to 10 of pending parameters.
+/// Of the bits 0 to 9 of pending parameters.
 const PARAMETERS: [&str; 10] = [
     "A address low",
     "A address high",
@@ -19,9 +19,6 @@ const PARAMETERS: [&str; 10] = [
     "B address high",
     "read mask",
 ];
-
-pub const PRESCALER: u8 = 7;
-pub const READ_MASK: u8 = 10;
 
 /// The registers that can be read, by their number.
 pub const REGISTERS: [&str; 7] =
@@ -106,14 +103,14 @@ pub fn fault(number: u8) -> &'static str {
 }
 
 /// The names of the pending parameters, the next one first.
-pub fn pending(pending: &Pending) -> Vec<&'static str> {
-    let codes = [pending.first, pending.second, pending.third, pending.fourth];
-    codes.iter().filter_map(|code| parameter(*code)).collect()
+pub fn pending_names(pending: u16) -> Vec<&'static str> {
+    let bits = (0..u16::BITS).map(|number| pending & 1 << number);
+    bits.filter_map(parameter).collect()
 }
 
-/// The name of a pending parameter; none for code 0.
-pub fn parameter(code: u8) -> Option<&'static str> {
-    PARAMETERS.get(usize::from(code).checked_sub(1)?).copied()
+/// The name of a pending parameter, by its bit; none for 0.
+pub fn parameter(bit: u16) -> Option<&'static str> {
+    PARAMETERS.get(bit.trailing_zeros() as usize).copied()
 }
 
 /// A number with a comma at each thousand.
@@ -234,9 +231,10 @@ impl fmt::Display for Written {
 /// What an accepted write did.
 pub fn write(before: &Device, after: &Device, byte: u8) -> Written {
     let (was, is) = (&before.core, &after.core);
-    let parameter = parameter(was.pending.first);
+    let came = pending::next(was.pending);
+    let parameter = parameter(came);
     let mut set = match parameter {
-        Some(_) => parameter_set(was.pending.first, is),
+        Some(_) => parameter_set(came, is),
         None => Some(register(was, is, byte)),
     };
     if was.block.zilog != is.block.zilog {
@@ -245,24 +243,31 @@ pub fn write(before: &Device, after: &Device, byte: u8) -> Written {
         set = Some(set.map_or(change.clone(), |set| format!("{set}; {change}")));
     }
     // A parameter among others goes without the list: its register had it.
-    let asks = was.pending.first == 0 || was.pending.second == 0;
-    let next = if asks { pending(&is.pending) } else { Vec::new() };
+    let asks = was.pending == came;
+    let next = if asks { pending_names(is.pending) } else { Vec::new() };
     // What these two set begins with their name.
-    let parameter = parameter.filter(|_| !matches!(was.pending.first, PRESCALER | READ_MASK));
+    let parameter = parameter.filter(|_| !matches!(came, pending::PRESCALER | pending::READ_MASK));
     Written { parameter, set, next }
 }
 
-/// What a parameter, by its code, made of the device.
-fn parameter_set(code: u8, is: &Core) -> Option<String> {
-    let high_is_next = is.pending.first == code + 1;
-    Some(match code {
-        1 | 3 | 8 if high_is_next => return None,
-        1 | 2 => format!("A starts at {:04X}", is.a.address),
-        3 | 4 => format!("length {}", is.block.length),
-        5 => format!("A takes {} clocks", is.a.cycle),
-        6 => format!("B takes {} clocks", is.b.cycle),
-        PRESCALER => format!("prescaler {}", prescaler(is)),
-        8 | 9 => format!("B starts at {:04X}", is.b.address),
+/// What a parameter, by its bit, made of the device.
+fn parameter_set(bit: u16, is: &Core) -> Option<String> {
+    // A high byte has the bit after its low byte's.
+    let high_is_next = pending::next(is.pending) == bit << 1;
+    Some(match bit {
+        pending::A_ADDRESS_LOW | pending::LENGTH_LOW | pending::B_ADDRESS_LOW if high_is_next => {
+            return None
+        }
+        pending::A_ADDRESS_LOW | pending::A_ADDRESS_HIGH => {
+            format!("A starts at {:04X}", is.a.address)
+        }
+        pending::LENGTH_LOW | pending::LENGTH_HIGH => format!("length {}", is.block.length),
+        pending::A_TIMING => format!("A takes {} clocks", is.a.cycle),
+        pending::B_TIMING => format!("B takes {} clocks", is.b.cycle),
+        pending::PRESCALER => format!("prescaler {}", prescaler(is)),
+        pending::B_ADDRESS_LOW | pending::B_ADDRESS_HIGH => {
+            format!("B starts at {:04X}", is.b.address)
+        }
         _ => format!("read mask {}", mask(is.readback.mask)),
     })
 }
@@ -403,6 +408,21 @@ mod tests {
             "WR5: auto restart on",
         ];
         assert_eq!(told, expected);
+    }
+
+    #[test]
+    fn pending_parameters_are_named_by_their_bits() {
+        let named = |number| pending_names(number).join(", ");
+        assert_eq!(named(0), "");
+        assert_eq!(
+            named(pending::A_ADDRESS_LOW | pending::LENGTH_LOW | pending::LENGTH_HIGH),
+            "A address low, length low, length high"
+        );
+        assert_eq!(named(0x03FF), PARAMETERS.join(", "));
+        assert_eq!(named(0xFC00), "");
+        let by_bits: Vec<&str> = (0..16).filter_map(|number| parameter(1 << number)).collect();
+        assert_eq!(by_bits, PARAMETERS);
+        assert_eq!(parameter(0), None);
     }
 
     #[test]
