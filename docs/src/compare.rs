@@ -8,6 +8,8 @@
 
 #[path = "generate.rs"]
 mod generate;
+#[path = "numbers.rs"]
+mod numbers;
 #[path = "process.rs"]
 mod process;
 #[path = "program.rs"]
@@ -24,7 +26,9 @@ mod stored;
 mod waits;
 
 use generate::Rng;
+use numbers::Numbers;
 use program::Failure;
+use reference::model::Device;
 use reference::session::{self, Watch};
 use std::process::{ExitCode, Output};
 use std::time::{SystemTime, UNIX_EPOCH};
@@ -33,8 +37,8 @@ use waits::Waits;
 const HELP: &str = "\
 usage: compare BENCH SEED COUNT [FILE ...]
 Runs the program BENCH on sessions and compares what it writes with the lines
-of the second program. Prints the seed, what writes in burst waits came to, and
-how many lines of each shape came.
+of the second program. Prints the seed, what writes in burst waits came to, how
+many numbers of pending parameters came, and how many lines of each shape.
 
   BENCH  the bench program: a session on standard input, lines on the output
   SEED   a number, or `date` for the days since 1970-01-01
@@ -43,12 +47,12 @@ how many lines of each shape came.
 
 Exit status: 0 all agree; 1 a difference, or the second program stops, which is
 shown with the session shortened as far as it still does so, or, with a COUNT of
-1000 or more, a shape of line or a case of a write in a wait that never came;
-2 bad arguments, or BENCH or a FILE can't be used.
+1000 or more, a shape of line, a case of a write in a wait or a number of pending
+parameters that never came; 2 bad arguments, or BENCH or a FILE can't be used.
 ";
 
-/// From this many sessions on every shape of line must have come, and every
-/// case of a write in a wait.
+/// From this many sessions on every shape of line must have come, every case of
+/// a write in a wait, and every number of pending parameters that is valid.
 const ENOUGH: u64 = 1_000;
 
 // ---- Arguments -----------------------------------------------------------
@@ -362,9 +366,16 @@ fn compare(name: &str, session: &[u8], bench: Bench, watch: Watch) -> Result<Vec
     }
 }
 
+/// What the devices of the sessions came to, in the second program.
+struct Watched {
+    waits: Waits,
+    /// After each accepted call.
+    numbers: Numbers,
+}
+
 /// The sessions of the seed. Numbered from 1, so that COUNT reaches a session
 /// when it is its number.
-fn compare_random(arguments: &Arguments, waits: &mut Waits) -> Result<Tally, Failure> {
+fn compare_random(arguments: &Arguments, watched: &mut Watched) -> Result<Tally, Failure> {
     let mut tally = Tally::default();
     for number in 1..=arguments.count {
         let mut rng = Rng::numbered(arguments.seed, number);
@@ -372,7 +383,10 @@ fn compare_random(arguments: &Arguments, waits: &mut Waits) -> Result<Tally, Fai
         let pieces = if rng.chance(1, 4) { Some(rng.next()) } else { None };
         let bench = Bench { program: &arguments.bench, pieces };
         let name = format!("session {number} of seed {}", arguments.seed);
-        let mut watch = |before: &_, call, after: &_| waits.count(before, call, after);
+        let mut watch = |before: &Device, call, after: &Device| {
+            watched.waits.count(before, call, after);
+            watched.numbers.count(&after.pending);
+        };
         tally.add(&compare(&name, &session, bench, &mut watch)?);
     }
     Ok(tally)
@@ -385,12 +399,17 @@ fn compare_all(arguments: &Arguments) -> Result<String, Failure> {
         compare(file, &session, bench, &mut |_, _, _| {})?;
     }
     // Without the stored ones: what is made has to come to everything alone.
-    let mut waits = Waits::new();
-    let tally = compare_random(arguments, &mut waits)?;
+    let mut watched = Watched { waits: Waits::new(), numbers: Numbers::new() };
+    let tally = compare_random(arguments, &mut watched)?;
+    let Watched { waits, numbers } = watched;
     println!("{}", waits.summary("waits"));
+    println!("{}", numbers.summary("pending parameters"));
     if arguments.count >= ENOUGH {
         if let Some(missing) = waits.missing() {
             return Err((1, format!("no session came to this in a burst wait: {missing}")));
+        }
+        if let Some(missing) = numbers.missing() {
+            return Err((1, format!("no session came to these pending parameters: {missing}")));
         }
         if let Some((shape, _)) = tally.shapes().find(|&(_, times)| times == 0) {
             return Err((1, format!("no session gave a line of the shape {shape}")));

@@ -127,7 +127,6 @@ fn device_of_model(device: &model::Device) -> Device {
     let slot = zxndma::Slot { elapsed, bus, length, burst };
     let model::Clocks { bus, held, cpu } = device.clocks;
     let clocks = zxndma::Clocks { bus, held, cpu };
-    let [first, second, third, fourth] = device.pending;
     let (length, counter, zilog) = (device.length, device.counter, device.zilog);
     let core = zxndma::Core {
         a: port_of_model(device.a),
@@ -145,7 +144,7 @@ fn device_of_model(device: &model::Device) -> Device {
             position: device.place,
             waiting: device.status_waiting,
         },
-        pending: zxndma::Pending { first, second, third, fourth },
+        pending: device.pending.number(),
         enabled: device.enabled,
         slot,
     };

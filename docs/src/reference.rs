@@ -18,7 +18,7 @@ pub mod model {
     /// The bytes of memory, and of latches, that a grant must be lent.
     pub const SIZE: usize = 65_536;
 
-    // The parameters by code. 0 stands for none.
+    // The parameters by code, in the order of 01's table. 0 stands for none.
     pub const A_LOW: u8 = 1;
     pub const A_HIGH: u8 = 2;
     pub const LENGTH_LOW: u8 = 3;
@@ -99,12 +99,80 @@ pub mod model {
         pub place: u8,
         /// A status read is waiting.
         pub status_waiting: bool,
-        /// The parameters awaited, the next one first, 0 behind the last.
-        pub pending: [u8; 4],
+        pub pending: Pending,
+    }
+
+    /// The parameters awaited. The product keeps them as a number with a bit
+    /// for each; here they are kept as a sequence, so that the number has a
+    /// witness.
+    #[derive(Clone, Copy, PartialEq, Eq, Debug)]
+    pub enum Pending {
+        /// Their codes, the next one first, 0 behind the last.
+        Sequence([u8; 4]),
+        /// A number that stands for no sequence, kept as it came: unsound.
+        Stray(u16),
     }
 
     const NO_SLOT: Slot = Slot { elapsed: 0, bus: 0, length: 0, burst: false };
-    const NO_PARAMETER: [u8; 4] = [0; 4];
+    const NO_PARAMETER: Pending = Pending::Sequence([0; 4]);
+
+    // ---- Sequences and numbers -------------------------------------------
+
+    /// 01's table: the parameters that are awaited together, in their order.
+    /// Each is asked for by a bit of its own, so that any of a row can be left
+    /// out. The prescaler comes to be awaited when B timing has been written:
+    /// its row has nothing before it.
+    const TABLE: [&[u8]; 6] = [
+        &[A_LOW, A_HIGH, LENGTH_LOW, LENGTH_HIGH], // WR0
+        &[A_TIMING],                               // WR1
+        &[B_TIMING],                               // WR2
+        &[PRESCALER],                              // a B timing byte with bit 5 set
+        &[B_LOW, B_HIGH],                          // WR4
+        &[READ_MASK],                              // WR6, after BB
+    ];
+
+    impl Pending {
+        /// What a number stands for: the sequence out of a row of the table
+        /// that has this number, if there is one.
+        pub fn of_number(number: u16) -> Pending {
+            for row in TABLE {
+                let mut sequence = [0; 4];
+                let wanted = row.iter().filter(|&&code| number & bit_of(code) != 0);
+                for (place, &code) in sequence.iter_mut().zip(wanted) {
+                    *place = code;
+                }
+                if Pending::Sequence(sequence).number() == number {
+                    return Pending::Sequence(sequence);
+                }
+            }
+            Pending::Stray(number)
+        }
+
+        /// The number: the bits of those awaited.
+        pub fn number(&self) -> u16 {
+            match self {
+                Pending::Sequence(codes) => {
+                    let awaited = codes.iter().filter(|&&code| code != 0);
+                    awaited.fold(0, |number, &code| number | bit_of(code))
+                }
+                Pending::Stray(number) => *number,
+            }
+        }
+
+        /// The code of the next one, 0 for none. Nothing asks this of a stray
+        /// number: the calls refuse its device.
+        pub fn next(&self) -> u8 {
+            match self {
+                Pending::Sequence(codes) => codes[0],
+                Pending::Stray(_) => 0,
+            }
+        }
+    }
+
+    /// Bits 0 to 9 in the order of the table.
+    fn bit_of(code: u8) -> u16 {
+        1 << (code - 1)
+    }
 
     // ---- Power-on and soundness ------------------------------------------
 
@@ -144,7 +212,10 @@ pub mod model {
         // The books' sum in 64 bits.
         let books = books_sum(d) <= u128::from(u64::MAX);
         // Awaited parameters are a tail of a sequence in the table.
-        let parameters = valid_pending(&d.pending);
+        let parameters = match &d.pending {
+            Pending::Sequence(codes) => valid_sequence(codes),
+            Pending::Stray(_) => false,
+        };
         let s = &d.slot;
         // Disabled means no clock of a slot is spent.
         let idle = d.enabled || s.elapsed == 0;
@@ -166,13 +237,13 @@ pub mod model {
 
     /// A tail of a sequence in the table: some of WR0's four in their order,
     /// some of WR4's two in their order, one of the others alone, or none.
-    fn valid_pending(pending: &[u8; 4]) -> bool {
+    pub fn valid_sequence(codes: &[u8; 4]) -> bool {
         // How many stand before the first 0; behind it only 0 may stand.
-        let count = pending.iter().take_while(|&&code| code != 0).count();
-        if pending[count..].iter().any(|&code| code != 0) {
+        let count = codes.iter().take_while(|&&code| code != 0).count();
+        if codes[count..].iter().any(|&code| code != 0) {
             return false;
         }
-        let awaited = &pending[..count];
+        let awaited = &codes[..count];
         let in_order = awaited.windows(2).all(|pair| pair[0] < pair[1]);
         let all_wr0 = awaited.iter().all(|code| (A_LOW..=LENGTH_HIGH).contains(code));
         let all_wr4 = awaited.iter().all(|code| (B_LOW..=B_HIGH).contains(code));
@@ -228,7 +299,7 @@ pub mod model {
         }
         // The port's low byte sets the mode, before the byte takes effect.
         d.zilog = port & 0x00FF == 0x0B;
-        if d.pending[0] != 0 {
+        if d.pending.next() != 0 {
             parameter(d, byte);
         } else {
             base(d, byte);
@@ -302,8 +373,8 @@ pub mod model {
 
     /// Puts a parameter behind those awaited already, if it is wanted.
     fn await_parameter(d: &mut Device, wanted: bool, code: u8) {
-        if wanted {
-            if let Some(free) = d.pending.iter_mut().find(|place| **place == 0) {
+        if let (true, Pending::Sequence(codes)) = (wanted, &mut d.pending) {
+            if let Some(free) = codes.iter_mut().find(|place| **place == 0) {
                 *free = code;
             }
         }
@@ -327,8 +398,10 @@ pub mod model {
 
     /// A byte that is the parameter awaited next. It takes effect at once.
     fn parameter(d: &mut Device, byte: u8) {
-        let code = d.pending[0];
-        d.pending = [d.pending[1], d.pending[2], d.pending[3], 0];
+        let code = d.pending.next();
+        if let Pending::Sequence(codes) = &mut d.pending {
+            *codes = [codes[1], codes[2], codes[3], 0];
+        }
         match code {
             A_LOW => d.a.address = with_low(d.a.address, byte),
             A_HIGH => d.a.address = with_high(d.a.address, byte),

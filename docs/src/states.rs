@@ -4,8 +4,10 @@
 //! sessions. Every answer is compared whole: number, byte, each field of the
 //! device, and after a grant both buffers, in a session after every record.
 //! The sessions of a seed are those that `compare.rs` makes of it. What the
-//! grants and the writes in burst waits came to is counted. It also sees that
-//! the second program stops where a slot would begin with its block finished.
+//! grants and the writes in burst waits came to is counted, and so are the
+//! numbers of pending parameters that came. It also tries each of these, and
+//! sees that the second program stops where a slot would begin with its block
+//! finished.
 //!
 //! Built by `rustc --edition 2021 -O -L native=target/staticlib states.rs`,
 //! from this folder or with its path; `states --help` says how it is run.
@@ -16,6 +18,8 @@
 mod generate;
 #[path = "grants.rs"]
 mod grants;
+#[path = "numbers.rs"]
+mod numbers;
 #[path = "program.rs"]
 mod program;
 #[path = "questions.rs"]
@@ -33,11 +37,13 @@ mod zxndma;
 
 use generate::Rng;
 use grants::{Grant, Grants};
-use reference::model::{self, SIZE};
+use numbers::Numbers;
+use reference::model::{self, Pending, SIZE};
 use reference::session;
+use std::collections::BTreeSet;
 use std::process::ExitCode;
 use waits::Waits;
-use zxndma::{Block, Clocks, Control, Core, Device, Pending, Port, Readback, Slot, Status};
+use zxndma::{Block, Clocks, Control, Core, Device, Port, Readback, Slot, Status};
 
 /// For each seed, if nothing else is asked for.
 const CALLS: u64 = 1_000_000;
@@ -47,14 +53,19 @@ const HELP: &str = "\
 usage: states [--calls N] [--sessions N] [--seed N]... [FILE.hex]...
 Compares the linked library with the second program, for each seed (1) by N calls
 on made devices (1000000) and N made sessions (5000), and on the stored sessions.
-Prints how often each number was answered, and what the grants and the writes in
-burst waits came to. Sees, too, that the calls refuse a device whose slot would
-begin with the block finished, and that a clock of it stops the second program.
+Prints how often each number was answered, what the grants and the writes in
+burst waits came to, and how many numbers of pending parameters came. For each
+seed it tries all 65536 of these on devices that are valid otherwise: a write, a
+read and a grant must answer 1 exactly where the number stands for no sequence;
+to each other number each byte is written. Sees, too, that the calls refuse a
+device whose slot would begin with the block finished, and that a clock of it
+stops the second program.
 
 Exit status: 0 no difference; 1 a difference, or the second program stops in a
 call or doesn't where it should, which is shown, or a number that a call can
 answer never came, or, with as many calls or sessions as these, some case of a
-long grant or of a write in a wait, or a FILE can't be read; 2 bad arguments.
+long grant or of a write in a wait, or a number of pending parameters, or a FILE
+can't be read; 2 bad arguments.
 ";
 
 // ---- Both sides ----------------------------------------------------------
@@ -68,7 +79,6 @@ fn model_of(device: Device) -> model::Device {
     let Control { forward, prescaler, burst, restart } = control;
     let Status { e, t } = status;
     let Readback { mask, position, waiting } = readback;
-    let Pending { first, second, third, fourth } = pending;
     model::Device {
         a: model_port(a),
         b: model_port(b),
@@ -87,7 +97,7 @@ fn model_of(device: Device) -> model::Device {
         mask,
         place: position,
         status_waiting: waiting,
-        pending: [first, second, third, fourth],
+        pending: Pending::of_number(pending),
     }
 }
 
@@ -139,6 +149,8 @@ struct Answer {
     number: u8,
     byte: u8,
     device: model::Device,
+    /// The device's number of pending parameters; in `device` it is a sequence.
+    pending: u16,
 }
 
 /// What one side lends, with room for buffers that are too long. A call must
@@ -196,7 +208,8 @@ fn by_library(device: Device, call: Call, lent: &mut Buffers) -> (Answer, Device
         }
         Call::Valid => (u8::from(device.is_valid()), 0, device),
     };
-    (Answer { number, byte, device: model_of(device) }, device)
+    let pending = device.core.pending;
+    (Answer { number, byte, device: model_of(device), pending }, device)
 }
 
 fn by_model(device: Device, call: Call, lent: &mut Buffers) -> Answer {
@@ -214,7 +227,8 @@ fn by_model(device: Device, call: Call, lent: &mut Buffers) -> Answer {
         }
         Call::Valid => (u8::from(model::valid(&device)), 0),
     };
-    Answer { number, byte, device }
+    let pending = device.pending.number();
+    Answer { number, byte, device, pending }
 }
 
 // ---- Comparing -----------------------------------------------------------
@@ -278,6 +292,9 @@ struct Bench {
     grants: Grants,
     /// What accepted writes in burst waits came to.
     waits: Waits,
+    /// The numbers of pending parameters: before and after accepted calls those
+    /// that stand for a sequence, before refused ones the others.
+    numbers: Numbers,
 }
 
 impl Bench {
@@ -288,7 +305,13 @@ impl Bench {
             counts: Counts::default(),
             grants: Grants::of_sessions(),
             waits: Waits::new(),
+            numbers: Numbers::new(),
         }
+    }
+
+    /// What the calls come to from here on.
+    fn count_anew(&mut self, grants: Grants) {
+        (self.grants, self.waits, self.numbers) = (grants, Waits::new(), Numbers::new());
     }
 
     fn clear(&mut self) {
@@ -316,23 +339,36 @@ impl Bench {
     /// Has both sides answer. Gives the number and the device afterwards, or
     /// the whole case if they differ or the second program stops.
     fn call(&mut self, device: Device, call: Call) -> Result<(u8, Device), String> {
+        let (answer, after) = self.answer(device, call)?;
+        if matches!(call, Call::Grant { .. }) && self.library != self.model {
+            return Err(self.difference(device, call, &answer, &answer));
+        }
+        Ok((answer.number, after))
+    }
+
+    /// As `call`, but for the buffers: these are not compared. Gives what both
+    /// answer, and the library's device.
+    fn answer(&mut self, device: Device, call: Call) -> Result<(Answer, Device), String> {
         let (library, after) = by_library(device, call, &mut self.library);
         let model = stops::caught(|| by_model(device, call, &mut self.model)).map_err(|text| {
             format!("{:?}\nbefore: {:?}\nthe second program stops: {}", call, device, text)
         })?;
-        let lends = matches!(call, Call::Grant { .. });
-        if library != model || (lends && self.library != self.model) {
+        if library != model {
             return Err(self.difference(device, call, &library, &model));
         }
         self.counts.of(call)[usize::from(model.number)] += 1;
+        let before = model_of(device);
         if let (Some(accepted), 0) = (call.of_session(), model.number) {
-            let before = model_of(device);
             self.waits.count(&before, accepted, &model.device);
+            self.numbers.count(&before.pending);
+            self.numbers.count(&model.device.pending);
             if let Call::Grant { clocks, .. } = call {
                 self.grants.count(&Grant::new(before, model.device, clocks));
             }
+        } else if matches!(before.pending, Pending::Stray(_)) {
+            self.numbers.count(&before.pending);
         }
-        Ok((library.number, after))
+        Ok((model, after))
     }
 
     fn difference(&self, device: Device, call: Call, library: &Answer, model: &Answer) -> String {
@@ -400,7 +436,8 @@ fn block_count(block: &Block) -> u32 {
 }
 
 const PORT_FIELDS: u32 = 5;
-const FIELDS: u32 = 2 * PORT_FIELDS + 24;
+const OTHER_FIELDS: u32 = 21;
+const FIELDS: u32 = OTHER_FIELDS + 2 * PORT_FIELDS;
 
 fn set_port_field(rng: &mut Rng, port: &mut Port, field: u32) {
     match field {
@@ -428,20 +465,19 @@ fn set_field(rng: &mut Rng, device: &mut Device, field: u32) {
         9 => core.readback.mask = byte(rng),
         10 => core.readback.position = byte(rng),
         11 => core.readback.waiting = rng.chance(1, 2),
-        12 => core.pending.first = byte(rng),
-        13 => core.pending.second = byte(rng),
-        14 => core.pending.third = byte(rng),
-        15 => core.pending.fourth = byte(rng),
-        16 => core.enabled = rng.chance(1, 2),
-        17 => core.slot.elapsed = word(rng),
-        18 => core.slot.bus = word(rng),
-        19 => core.slot.length = word(rng),
-        20 => core.slot.burst = rng.chance(1, 2),
-        21 => clocks.bus = any_count(rng),
-        22 => clocks.held = any_count(rng),
-        23 => clocks.cpu = any_count(rng),
-        _ if field < 24 + PORT_FIELDS => set_port_field(rng, &mut core.a, field - 24),
-        _ => set_port_field(rng, &mut core.b, field - 24 - PORT_FIELDS),
+        12 => core.pending = any_pending(rng),
+        13 => core.enabled = rng.chance(1, 2),
+        14 => core.slot.elapsed = word(rng),
+        15 => core.slot.bus = word(rng),
+        16 => core.slot.length = word(rng),
+        17 => core.slot.burst = rng.chance(1, 2),
+        18 => clocks.bus = any_count(rng),
+        19 => clocks.held = any_count(rng),
+        20 => clocks.cpu = any_count(rng),
+        _ => match field - OTHER_FIELDS {
+            field if field < PORT_FIELDS => set_port_field(rng, &mut core.a, field),
+            field => set_port_field(rng, &mut core.b, field - PORT_FIELDS),
+        },
     }
 }
 
@@ -463,16 +499,33 @@ fn valid_port(rng: &mut Rng) -> Port {
     }
 }
 
-/// One of the sequences that registers ask for, or a tail of it.
-fn valid_pending(rng: &mut Rng) -> Pending {
-    let mut codes: Vec<u8> = match rng.below(4) {
+/// The number of a sequence that registers ask for, or of a tail of it.
+fn valid_pending(rng: &mut Rng) -> u16 {
+    let codes: Vec<u8> = match rng.below(4) {
         0 => Vec::new(),
         1 => (1..=4).filter(|_| rng.chance(1, 2)).collect(),
         2 => (8..=9).filter(|_| rng.chance(1, 2)).collect(),
         _ => vec![rng.pick(&[5, 6, 7, 10])],
     };
-    codes.resize(4, 0);
-    Pending { first: codes[0], second: codes[1], third: codes[2], fourth: codes[3] }
+    let mut sequence = [0; 4];
+    sequence[..codes.len()].copy_from_slice(&codes);
+    Pending::Sequence(sequence).number()
+}
+
+/// Any number. Most of them are near one that stands for a sequence: it, with a
+/// bit more or less, with the bits of another, or with B timing before the
+/// prescaler; or they have a bit that stands for no parameter.
+fn any_pending(rng: &mut Rng) -> u16 {
+    let (one, other) = (valid_pending(rng), valid_pending(rng));
+    let both_of_b = Pending::Sequence([model::B_TIMING, model::PRESCALER, 0, 0]).number();
+    match rng.below(8) {
+        0 | 1 => one,
+        2 | 3 => one ^ (1 << rng.below(16)),
+        4 => one | other,
+        5 => rng.pick(&[both_of_b, both_of_b | one, u16::MAX]),
+        6 => (1 << rng.between(10, 15)) | rng.pick(&[0, one]),
+        _ => rng.word(),
+    }
 }
 
 const NO_SLOT: Slot = Slot { elapsed: 0, bus: 0, length: 0, burst: false };
@@ -610,13 +663,19 @@ fn endless_device(rng: &mut Rng) -> Device {
     device
 }
 
-/// A valid device, one with a few fields changed, one with any content, or
-/// the one that the last accepted call left.
+/// A valid device, one with any number of pending parameters, one with a few
+/// fields changed, one with any content, or the one that the last accepted call
+/// left.
 fn made_device(rng: &mut Rng, last: Device) -> Device {
-    match rng.below(10) {
-        0..=3 => last,
-        4..=6 => valid_device(rng),
-        7 | 8 => {
+    match rng.below(20) {
+        0..=7 => last,
+        8..=12 => valid_device(rng),
+        13 => {
+            let mut device = valid_device(rng);
+            device.core.pending = any_pending(rng);
+            device
+        }
+        14..=17 => {
             let mut device = valid_device(rng);
             for _ in 0..rng.between(1, 3) {
                 let field = rng.below(FIELDS);
@@ -771,7 +830,7 @@ fn waiting_device(rng: &mut Rng) -> Device {
     core.block.length = about as u16;
     core.control.prescaler = rng.pick(&[0, 1, 1, 2]);
     if rng.chance(1, 2) {
-        core.pending = Pending { first: 0, second: 0, third: 0, fourth: 0 };
+        core.pending = 0;
     }
     let sum = rng.pick(&[0, 1 << 32, 1 << 63]);
     device.clocks = clocks_of(rng, sum);
@@ -791,7 +850,7 @@ fn write_about_a_wait(rng: &mut Rng, core: &Core) -> Call {
     let [high, low] = length_about(rng, &core.block).to_be_bytes();
     let direction = rng.pick(&[0, 0b100]);
     let wr0 = 1 | direction | rng.pick(&[0b0110_0000, 0b0110_0000, 0b0010_0000, 0b0100_0000]);
-    let byte = match core.pending.first {
+    let byte = match Pending::of_number(core.pending).next() {
         model::LENGTH_LOW => low,
         model::LENGTH_HIGH => high,
         0 => rng.pick(&[wr0, wr0, wr0, wr0, 0xCF, 0xD3, 0xB3, 0xB3, 0x82, 0xA2, 0x83]),
@@ -903,6 +962,129 @@ fn stored_session(bench: &mut Bench, path: &str) -> Result<(), String> {
     run_session(bench, &session).map_err(|case| format!("{}: {}", path, case))
 }
 
+// ---- Every number of pending parameters ----------------------------------
+
+/// The sequences that a sound state can hold: 16 of WR0's parameters, three more
+/// of WR4's, and one for each of the four others.
+const SEQUENCES: usize = 23;
+
+/// The numbers of the sequences that 01's rule takes, of all there are. No two
+/// may share a number.
+fn numbers_by_rule() -> Result<BTreeSet<u16>, String> {
+    let mut numbers = BTreeSet::new();
+    // Four codes, among them one more than there are parameters.
+    for number in 0..12_u32.pow(4) {
+        let code = |place: u32| (number / 12_u32.pow(place) % 12) as u8;
+        let codes = [code(0), code(1), code(2), code(3)];
+        let shared =
+            model::valid_sequence(&codes) && !numbers.insert(Pending::Sequence(codes).number());
+        if shared {
+            return Err(format!("another sequence has the number of {:?}", codes));
+        }
+    }
+    Ok(numbers)
+}
+
+/// The numbers of the sequences that bytes written to the second program lead
+/// to, from power on.
+fn numbers_by_writes() -> BTreeSet<u16> {
+    let mut numbers = BTreeSet::new();
+    let mut open = vec![model::power_on()];
+    while let Some(device) = open.pop() {
+        if numbers.insert(device.pending.number()) {
+            open.extend((0..=u8::MAX).map(|byte| {
+                let mut written = device;
+                model::write(&mut written, 0x6B, byte);
+                // Only what is pending matters here.
+                model::Device { pending: written.pending, ..model::power_on() }
+            }));
+        }
+    }
+    numbers
+}
+
+/// The numbers that stand for a sequence. The second program's way from number
+/// to sequence, 01's rule on sequences and what writes lead to must all give
+/// the same, and the way back must lead back.
+fn numbers_of_sequences() -> Result<BTreeSet<u16>, String> {
+    let back = |number: &u16| Pending::of_number(*number).number();
+    if let Some(number) = (0..=u16::MAX).find(|number| back(number) != *number) {
+        return Err(format!("the second program makes {} of the number {}", back(&number), number));
+    }
+    let numbers: BTreeSet<u16> = numbers::of_sequences().into_iter().collect();
+    let others = [numbers_by_rule()?, numbers_by_writes()];
+    if numbers.len() != SEQUENCES || others.iter().any(|other| *other != numbers) {
+        return Err(format!("the second program's sequences: {:?}, {:?}", numbers, others));
+    }
+    Ok(numbers)
+}
+
+/// Tries each number once, in a device that is valid otherwise: where it stands
+/// for no sequence the calls refuse it with 1 and change nothing, and elsewhere
+/// they don't answer 1. To those every byte is written.
+fn every_number(bench: &mut Bench, seed: u64) -> Result<(), String> {
+    let mut rng = Rng::new(seed);
+    let of_sequences = numbers_of_sequences()?;
+    let mut refused = 0;
+    bench.fill(&mut rng);
+    let filled = bench.library.clone();
+    for number in 0..=u16::MAX {
+        let mut device = valid_device(&mut rng);
+        device.core.pending = number;
+        let stands = of_sequences.contains(&number);
+        let place = |case| format!("seed {}, pending parameters {}: {}", seed, number, case);
+        let (answer, _) = bench.answer(device, Call::Valid).map_err(place)?;
+        if answer.number != u8::from(stands) {
+            return Err(place(format!("{:?} is valid, or is not", device)));
+        }
+        let write = Call::Write { port: rng.pick(&[0x6B, 0x0B]), byte: made_byte(&mut rng) };
+        let grant = Call::Grant { memory: SIZE, latches: SIZE, clocks: 0 };
+        for call in [write, Call::Read { port: 0x6B }, grant] {
+            let (answer, after) = bench.answer(device, call).map_err(place)?;
+            if (answer.number == 1) == stands || (!stands && after != device) {
+                return Err(place(format!("{:?} of {:?} gives {:?}", call, device, answer)));
+            }
+        }
+        refused += u32::from(!stands);
+    }
+    if bench.library != filled || bench.model != filled {
+        return Err(format!("seed {}, pending parameters: memory or latches have changed", seed));
+    }
+    let place = |case| format!("seed {}, pending parameters and bytes: {}", seed, case);
+    let writes = every_byte(bench, &mut rng, &of_sequences).map_err(place)?;
+    println!(
+        "states: seed {}: each number of pending parameters: {} valid, {} refused with 1; \
+         {} writes, of each byte to each valid one by both ports",
+        seed,
+        of_sequences.len(),
+        refused,
+        writes
+    );
+    Ok(())
+}
+
+/// Writes each byte by each port to a device with each of these numbers. Gives
+/// how many writes there were; all must be accepted.
+fn every_byte(bench: &mut Bench, rng: &mut Rng, numbers: &BTreeSet<u16>) -> Result<u32, String> {
+    let mut writes = 0;
+    for &number in numbers {
+        for port in [0x6B, 0x0B] {
+            for byte in 0..=u8::MAX {
+                let mut device = valid_device(rng);
+                (device.core.enabled, device.core.slot) = (false, NO_SLOT);
+                device.core.pending = number;
+                let call = Call::Write { port, byte };
+                let (answer, _) = bench.answer(device, call)?;
+                if answer.number != 0 {
+                    return Err(format!("{:?} of {:?} gives {:?}", call, device, answer));
+                }
+                writes += 1;
+            }
+        }
+    }
+    Ok(writes)
+}
+
 // ---- A slot that would begin with its block finished ---------------------
 
 /// Any valid content but for this: enabled, with no clock of a slot elapsed, and
@@ -998,16 +1180,24 @@ fn options(words: &[&str]) -> Result<Options, String> {
     Ok(options)
 }
 
-/// Prints what the grants and the writes in waits came to. Where there were
-/// enough of them, none of it may be missing.
+/// Prints what the grants and the writes in waits came to, and which numbers of
+/// pending parameters came. Where there were enough of them, none of it may be
+/// missing.
 fn counted(of: &str, bench: &Bench, enough: bool) -> Result<(), String> {
     println!("{}", bench.grants.summary(of));
     println!("{}", bench.waits.summary(&format!("states: waits of {}", of)));
-    match (bench.grants.missing(), bench.waits.missing()) {
-        (Some(missing), _) if enough => Err(format!("no grant of {}: {}", of, missing)),
-        (_, Some(missing)) if enough => Err(format!("no wait of {}: {}", of, missing)),
-        _ => Ok(()),
+    println!("{}", bench.numbers.summary(&format!("states: pending parameters of {}", of)));
+    let missing = [
+        ("grant", bench.grants.missing()),
+        ("wait", bench.waits.missing()),
+        ("pending parameters", bench.numbers.missing()),
+    ];
+    for (what, missing) in missing {
+        if let (Some(missing), true) = (missing, enough) {
+            return Err(format!("no {} of {}: {}", what, of, missing));
+        }
     }
+    Ok(())
 }
 
 fn compare(options: &Options) -> Result<String, String> {
@@ -1018,16 +1208,17 @@ fn compare(options: &Options) -> Result<String, String> {
     }
     println!("states: {} stored sessions", paths.len());
     for &seed in seeds {
+        every_number(&mut bench, seed)?;
         finished_devices(&mut bench, seed)?;
     }
-    (bench.grants, bench.waits) = (Grants::of_devices(), Waits::new());
+    bench.count_anew(Grants::of_devices());
     for &seed in seeds {
         println!("states: seed {}: {} calls", seed, calls);
         made_calls(&mut bench, seed, *calls)?;
     }
     counted("devices", &bench, *calls >= CALLS)?;
     // Without the stored ones: what is made has to come to everything alone.
-    (bench.grants, bench.waits) = (Grants::of_sessions(), Waits::new());
+    bench.count_anew(Grants::of_sessions());
     for &seed in seeds {
         println!("states: seed {}: {} sessions", seed, sessions);
         made_sessions(&mut bench, seed, *sessions)?;

@@ -49,7 +49,7 @@ impl Step {
     /// The byte of a write that is no parameter.
     fn command(&self) -> Option<u8> {
         match self.call {
-            Call::Write { byte, .. } if self.before.pending[0] == 0 => Some(byte),
+            Call::Write { byte, .. } if self.before.pending.next() == 0 => Some(byte),
             _ => None,
         }
     }
