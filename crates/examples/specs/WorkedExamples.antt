@@ -6,7 +6,6 @@ use mathlib.Core.Path.{_≡_}
 use mathlib.Core.Bool.{Bool, true, false}
 use mathlib.Core.List.{List, [], _∷_, _++_}
 use Rattle.rules.specs.Parts.{withCycle, withCounter, withMask, withPosition, withA, withB, withBlock, withReadback, withPending, withSlot}
-use Rattle.rules.specs.Pending.{codes}
 use Rattle.rules.specs.declared.Core.{Core}
 use Rattle.rules.specs.Slots.{slotLength}
 use Rattle.rules.specs.Bytes.{lowByte, highByte}
@@ -30,9 +29,9 @@ idle =
     ∷ 0x8F ∷ 0x93 ∷ 0x97 ∷ 0x9B ∷ 0x9F ∷ 0xA3 ∷ 0xAB ∷ 0xAF ∷ 0xB3 ∷ 0xB7 ∷ 0xD7 ∷ 0xDB ∷ 0xDF ∷ 0xE3 ∷ 0xE7 ∷ 0xEB
     ∷ 0xEF ∷ 0xF3 ∷ 0xF7 ∷ 0xFB ∷ 0xFF ∷ []
 
--- a core with these codes pending
-abbrev pub awaiting : ℕ → ℕ → ℕ → ℕ → Core → Core
-awaiting a b d e c = withPending (codes a b d e) c
+-- the number of the pending parameters
+abbrev pub pendingNumber : Core → ℕ
+pendingNumber c = c .pending
 
 -- a core in this slot
 abbrev pub inSlot : ℕ → ℕ → ℕ → Bool → Core → Core
@@ -831,31 +830,160 @@ table =
     ∷ send 0x340B (0x83 ∷ [])
     ∷ count 5
     ∷ [])
-    -- what the core holds: the codes of the pending parameters, the step as written, the read position
+    -- pending parameters: the number after each byte. WR0's four in one go, the lowest bit first
+    ∷ row "WR0 in one go"
+    (figure pendingNumber 0
+    ∷ send 0x6B (0x7D ∷ [])
+    ∷ figure pendingNumber 15
+    ∷ send 0x6B (0x34 ∷ [])
+    ∷ figure pendingNumber 14
+    ∷ figure (λ c. c .a .address) 0x34
+    ∷ send 0x6B (0x12 ∷ [])
+    ∷ figure pendingNumber 12
+    ∷ figure (λ c. c .a .address) 0x1234
+    ∷ send 0x6B (0x78 ∷ [])
+    ∷ figure pendingNumber 8
+    ∷ figure (λ c. c .block .length) 0x78
+    ∷ send 0x6B (0x56 ∷ [])
+    ∷ figure pendingNumber 0
+    ∷ figure (λ c. c .block .length) 0x5678
+    ∷ [])
+    -- one by one, the last first
+    ∷ row "WR0 one by one"
+    (send 0x6B (0x45 ∷ [])
+    ∷ figure pendingNumber 8
+    ∷ send 0x6B (0x56 ∷ [])
+    ∷ figure pendingNumber 0
+    ∷ figure (λ c. c .block .length) 0x5600
+    ∷ send 0x6B (0x25 ∷ [])
+    ∷ figure pendingNumber 4
+    ∷ send 0x6B (0x78 ∷ [])
+    ∷ figure pendingNumber 0
+    ∷ figure (λ c. c .block .length) 0x5678
+    ∷ send 0x6B (0x15 ∷ [])
+    ∷ figure pendingNumber 2
+    ∷ send 0x6B (0x12 ∷ [])
+    ∷ figure pendingNumber 0
+    ∷ figure (λ c. c .a .address) 0x1200
+    ∷ send 0x6B (0x0D ∷ [])
+    ∷ figure pendingNumber 1
+    ∷ send 0x6B (0x34 ∷ [])
+    ∷ figure pendingNumber 0
+    ∷ figure (λ c. c .a .address) 0x1234
+    ∷ [])
+    -- every other one of the four
+    ∷ row "WR0 with gaps"
+    (send 0x6B (0x55 ∷ [])
+    ∷ figure pendingNumber 10
+    ∷ send 0x6B (0x12 ∷ [])
+    ∷ figure pendingNumber 8
+    ∷ send 0x6B (0x56 ∷ 0x2D ∷ [])
+    ∷ figure pendingNumber 5
+    ∷ send 0x6B (0x34 ∷ [])
+    ∷ figure pendingNumber 4
+    ∷ send 0x6B (0x78 ∷ [])
+    ∷ figure pendingNumber 0
+    ∷ figure (λ c. c .a .address) 0x1234
+    ∷ figure (λ c. c .block .length) 0x5678
+    ∷ [])
+    -- WR4's two, and each of them
+    ∷ row "WR4's parameters"
+    (send 0x6B (0xCD ∷ [])
+    ∷ figure pendingNumber 384
+    ∷ send 0x6B (0xBC ∷ [])
+    ∷ figure pendingNumber 256
+    ∷ figure (λ c. c .b .address) 0xBC
+    ∷ send 0x6B (0x9A ∷ [])
+    ∷ figure pendingNumber 0
+    ∷ figure (λ c. c .b .address) 0x9ABC
+    ∷ send 0x6B (0xC5 ∷ [])
+    ∷ figure pendingNumber 128
+    ∷ send 0x6B (0x01 ∷ 0xC9 ∷ [])
+    ∷ figure pendingNumber 256
+    ∷ send 0x6B (0x02 ∷ [])
+    ∷ figure pendingNumber 0
+    ∷ figure (λ c. c .b .address) 0x0201
+    ∷ [])
+    -- a B timing byte with bit 5 set asks for the prescaler, one without it does not, and A timing never does
+    ∷ row "prescaler after B timing"
+    (send 0x6B (0x44 ∷ [])
+    ∷ figure pendingNumber 16
+    ∷ send 0x6B (0x22 ∷ [])
+    ∷ figure pendingNumber 0
+    ∷ figure (λ c. c .a .cycle) 2
+    ∷ send 0x6B (0x50 ∷ [])
+    ∷ figure pendingNumber 32
+    ∷ send 0x6B (0x21 ∷ [])
+    ∷ figure pendingNumber 64
+    ∷ figure (λ c. c .b .cycle) 3
+    ∷ send 0x6B (0x37 ∷ [])
+    ∷ figure pendingNumber 0
+    ∷ figure (λ c. c .control .prescaler) 55
+    ∷ send 0x6B (0x50 ∷ 0x02 ∷ [])
+    ∷ figure pendingNumber 0
+    ∷ figure (λ c. c .b .cycle) 2
+    ∷ figure (λ c. c .control .prescaler) 55
+    ∷ [])
+    -- a mask; a register's byte, and a command, are a mask as well
+    ∷ row "read mask pending"
+    (send 0x6B (0xBB ∷ [])
+    ∷ figure pendingNumber 512
+    ∷ send 0x6B (0x7D ∷ [])
+    ∷ figure pendingNumber 0
+    ∷ figure (λ c. c .readback .mask) 0x7D
+    ∷ send 0x6B (0xBB ∷ 0xBB ∷ [])
+    ∷ figure pendingNumber 0
+    ∷ figure (λ c. c .readback .mask) 0x3B
+    ∷ [])
+    -- bytes that ask for nothing leave the number, while nothing is pending; reads, grants and refused calls leave it
+    ∷ row "number left alone"
+    (send 0x6B (0x05 ∷ 0x04 ∷ 0x00 ∷ 0x80 ∷ 0x81 ∷ 0x82 ∷ 0x83 ∷ 0x86 ∷ 0xC3 ∷ [])
+    ∷ figure pendingNumber 0
+    ∷ send 0x6B (0x7D ∷ 0x34 ∷ [])
+    ∷ expectRefused 0x006C 2
+    ∷ sendRefused 0x006C 0x55 2
+    ∷ borrow 65535 65536 1 4
+    ∷ clocks 40
+    ∷ expect 0x6B (0x3A ∷ [])
+    ∷ figure pendingNumber 14
+    ∷ [])
+    -- parameters asked for in a burst wait: while the next slot's byte moves they cannot come, and the wait after it takes them
+    ∷ row "pending from wait to wait"
+    (send 0x6B (program 0x1000 3 (0x22 ∷ 0x01 ∷ []) 0xCD 0x2000 0x82)
+    ∷ figure pendingNumber 0
+    ∷ clocks 8
+    ∷ send 0x6B (0x3D ∷ [])
+    ∷ figure pendingNumber 7
+    ∷ send 0x6B (0x34 ∷ [])
+    ∷ figure pendingNumber 6
+    ∷ clocks 25
+    ∷ sendRefused 0x6B 0x12 3
+    ∷ figure pendingNumber 6
+    ∷ clocks 8
+    ∷ send 0x6B (0x12 ∷ [])
+    ∷ figure pendingNumber 4
+    ∷ send 0x6B (0x02 ∷ [])
+    ∷ figure pendingNumber 0
+    ∷ figure (λ c. c .a .address) 0x1234
+    ∷ figure (λ c. c .block .length) 2
+    ∷ counter 2
+    ∷ clocks 23
+    ∷ enabled false
+    ∷ [])
+    -- what the core holds: the step as written, the read position
     ∷ row "what the core holds"
-    (send 0x6B (0x7D ∷ [])
-    ∷ figure (λ c. c .pending .first) 1
-    ∷ figure (λ c. c .pending .second) 2
-    ∷ figure (λ c. c .pending .third) 3
-    ∷ figure (λ c. c .pending .fourth) 4
-    ∷ send 0x6B (0x00 ∷ 0x00 ∷ 0x00 ∷ 0x00 ∷ 0x74 ∷ [])
+    (send 0x6B (0x7D ∷ 0x00 ∷ 0x00 ∷ 0x00 ∷ 0x00 ∷ 0x74 ∷ [])
     ∷ figure (λ c. c .a .step) 3
-    ∷ figure (λ c. c .pending .first) 5
     ∷ send 0x6B (0x00 ∷ 0x60 ∷ [])
     ∷ figure (λ c. c .b .step) 2
-    ∷ figure (λ c. c .pending .first) 6
     ∷ send 0x6B (0x20 ∷ [])
-    ∷ figure (λ c. c .pending .first) 7
     ∷ send 0x6B (0xFF ∷ 0x50 ∷ 0x02 ∷ 0xCB ∷ 0x54 ∷ 0x02 ∷ 0xCB ∷ 0x54 ∷ 0x01 ∷ 0x8D ∷ [])
     ∷ figure (λ c. slotLength (c .control .prescaler) 4) 8160
     ∷ figure (λ c. c .a .cycle) 3
     ∷ figure (λ c. c .b .cycle) 4
-    ∷ figure (λ c. c .pending .first) 8
-    ∷ figure (λ c. c .pending .second) 9
     ∷ send 0x6B (0x00 ∷ 0x00 ∷ [])
     ∷ expect 0x6B (0x3A ∷ 0x00 ∷ [])
     ∷ send 0x6B (0xBB ∷ [])
-    ∷ figure (λ c. c .pending .first) 10
     ∷ figure (λ c. c .readback .position) 2
     ∷ send 0x6B (0x00 ∷ [])
     ∷ figure (λ c. c .readback .position) 0
@@ -882,24 +1010,37 @@ table =
     ∷ changed (λ c. withReadback (withMask 128 (c .readback)) c) false
     ∷ changed (λ c. withReadback (withPosition 6 (c .readback)) c) true
     ∷ changed (λ c. withReadback (withPosition 7 (c .readback)) c) false
-    ∷ changed (awaiting 1 2 3 4) true
-    ∷ changed (awaiting 1 3 4 0) true
-    ∷ changed (awaiting 2 4 0 0) true
-    ∷ changed (awaiting 8 9 0 0) true
-    ∷ changed (awaiting 7 0 0 0) true
-    ∷ changed (awaiting 10 0 0 0) true
-    ∷ changed (awaiting 11 0 0 0) false
-    ∷ changed (awaiting 6 7 0 0) false
-    ∷ changed (awaiting 4 5 0 0) false
-    ∷ changed (awaiting 9 8 0 0) false
-    ∷ changed (awaiting 1 1 0 0) false
-    ∷ changed (awaiting 2 1 0 0) false
-    ∷ changed (awaiting 1 8 0 0) false
-    ∷ changed (awaiting 0 1 0 0) false
-    ∷ changed (awaiting 1 0 2 0) false
-    ∷ changed (awaiting 1 2 2 0) false
-    ∷ changed (awaiting 1 2 0 3) false
-    ∷ changed (awaiting 1 2 4 3) false
+    ∷ changed (withPending 15) true
+    ∷ changed (withPending 13) true
+    ∷ changed (withPending 10) true
+    ∷ changed (withPending 1) true
+    ∷ changed (withPending 16) true
+    ∷ changed (withPending 32) true
+    ∷ changed (withPending 64) true
+    ∷ changed (withPending 128) true
+    ∷ changed (withPending 256) true
+    ∷ changed (withPending 384) true
+    ∷ changed (withPending 512) true
+    ∷ changed (withPending 17) false
+    ∷ changed (withPending 24) false
+    ∷ changed (withPending 48) false
+    ∷ changed (withPending 96) false
+    ∷ changed (withPending 80) false
+    ∷ changed (withPending 129) false
+    ∷ changed (withPending 136) false
+    ∷ changed (withPending 192) false
+    ∷ changed (withPending 320) false
+    ∷ changed (withPending 448) false
+    ∷ changed (withPending 513) false
+    ∷ changed (withPending 640) false
+    ∷ changed (withPending 768) false
+    ∷ changed (withPending 896) false
+    ∷ changed (withPending 1024) false
+    ∷ changed (withPending 1025) false
+    ∷ changed (withPending 2048) false
+    ∷ changed (withPending 16384) false
+    ∷ changed (withPending 32768) false
+    ∷ changed (withPending 65535) false
     ∷ changed (inSlot 0 4 0 false) false
     ∷ changed (inSlot 0 0 4 false) false
     ∷ changed (inSlot 0 0 0 true) false

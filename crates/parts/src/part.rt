@@ -4,7 +4,6 @@ ghost use Rattle.rules.specs.Parts.{withA, withB, withStatus, withReadback, wit
 ghost use Rattle.rules.specs.Commands.{disable};
 use crate::slot;
 use rules::Core;
-use rules::Pending;
 use rules::Port;
 use rules::Readback;
 use rules::Slot;
@@ -47,7 +46,7 @@ pub fn with_readback(r: Readback, c: Core) -> Core
 }
 
 // With other parameters pending.
-pub fn with_pending(p: Pending, c: Core) -> Core
+pub fn with_pending(p: u16, c: Core) -> Core
     ensures { λ r. ⌜ r ≡ withPending p c ⌝ }
 {
     let mut next = c;

@@ -60,7 +60,6 @@ pub fn core() -> Core
     };
     let status = status_at_reset();
     let readback = readback_at_reset();
-    let pending = pending::none();
     let slot = slot::no_slot();
     Core {
         a: port,
@@ -69,7 +68,7 @@ pub fn core() -> Core
         control,
         status,
         readback,
-        pending,
+        pending: pending::NOTHING,
         enabled: false,
         slot,
     }

@@ -86,7 +86,7 @@ fn valid_core(c: Core) -> bool
     let b = c.b;
     let block = c.block;
     let readback = c.readback;
-    let codes = c.pending;
+    let parameters = c.pending;
     let slot = c.slot;
     if !valid_port(a) {
         return false;
@@ -100,7 +100,7 @@ fn valid_core(c: Core) -> bool
     if !valid_readback(readback) {
         return false;
     }
-    if !pending::is_valid(codes) {
+    if !pending::is_valid(parameters) {
         return false;
     }
     if !valid_slot(c.enabled, slot) {

@@ -3,7 +3,7 @@ ghost use mathlib.Core.Path.{_≡_};
 ghost use Rattle.rules.specs.Bytes.{withLow, withHigh};
 ghost use Rattle.rules.specs.Parts.{withA, withB, withBlock, withLength, withControl, withPrescaler};
 ghost use Rattle.rules.specs.Ports.{timed, addressedLow, addressedHigh};
-ghost use Rattle.rules.specs.Registers.{wr0, wr1, wr2, wr3, wr4, wr5, register, masked, parameter, carriedOut, effect, inMode, written};
+ghost use Rattle.rules.specs.Registers.{wr0, wr1, wr2, wr3, wr4, wr5, register, masked, parameter, carriedOutAs, effect, inMode, written};
 use crate::command;
 use parts::bytes;
 use parts::part;
@@ -192,35 +192,35 @@ fn mask_written(byte: u8, c: Core) -> Core
     next
 }
 
-// The parameter with this code takes effect.
-fn write_parameter(code: u8, byte: u8, c: Core) -> Core
-    ensures { λ r. ⌜ r ≡ parameter code byte c ⌝ }
+// This parameter takes effect.
+fn write_parameter(which: u16, byte: u8, c: Core) -> Core
+    ensures { λ r. ⌜ r ≡ parameter which byte c ⌝ }
 {
-    if code == pending::A_LOW {
+    if which == pending::A_LOW {
         return a_low_written(byte, c);
     }
-    if code == pending::A_HIGH {
+    if which == pending::A_HIGH {
         return a_high_written(byte, c);
     }
-    if code == pending::LENGTH_LOW {
+    if which == pending::LENGTH_LOW {
         return length_low_written(byte, c);
     }
-    if code == pending::LENGTH_HIGH {
+    if which == pending::LENGTH_HIGH {
         return length_high_written(byte, c);
     }
-    if code == pending::A_TIMING {
+    if which == pending::A_TIMING {
         return a_timing_written(byte, c);
     }
-    if code == pending::B_TIMING {
+    if which == pending::B_TIMING {
         return b_timing_written(byte, c);
     }
-    if code == pending::PRESCALER {
+    if which == pending::PRESCALER {
         return prescaler_written(byte, c);
     }
-    if code == pending::B_LOW {
+    if which == pending::B_LOW {
         return b_low_written(byte, c);
     }
-    if code == pending::B_HIGH {
+    if which == pending::B_HIGH {
         return b_high_written(byte, c);
     }
     mask_written(byte, c)
@@ -236,14 +236,12 @@ fn in_mode(port: u16, c: Core) -> Core
     next
 }
 
-// A byte is carried out, as a parameter if one is pending.
-fn carry_out(byte: u8, c: Core) -> Core
-    ensures { λ r. ⌜ r ≡ carriedOut byte c ⌝ }
+// A byte is carried out, as this parameter or, where it is none, by the register that it selects.
+fn carry_out(which: u16, byte: u8, c: Core) -> Core
+    ensures { λ r. ⌜ r ≡ carriedOutAs which byte c ⌝ }
 {
-    let codes = c.pending;
-    if pending::is_pending(codes) {
-        let code = pending::next_code(codes);
-        return write_parameter(code, byte, c);
+    if which != pending::NOTHING {
+        return write_parameter(which, byte, c);
     }
     let number = selection::register_of(byte);
     write_register(number, byte, c)
@@ -253,10 +251,11 @@ fn carry_out(byte: u8, c: Core) -> Core
 fn take_effect(byte: u8, c: Core) -> Core
     ensures { λ r. ⌜ r ≡ effect byte c ⌝ }
 {
-    let codes = c.pending;
-    let codes = pending::after(byte, codes);
-    let c = carry_out(byte, c);
-    part::with_pending(codes, c)
+    let parameters = c.pending;
+    let which = pending::next_of(parameters);
+    let parameters = pending::after(which, byte, parameters);
+    let c = carry_out(which, byte, c);
+    part::with_pending(parameters, c)
 }
 
 // An accepted write.

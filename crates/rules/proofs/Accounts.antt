@@ -17,8 +17,9 @@ use Rattle.rules.specs.Readback.{readByte}
 use Rattle.rules.specs.Buffers.{Store, Buffers}
 use Rattle.rules.specs.World.{World, System, Note, step, note, stepCounted, clocked}
 use Rattle.rules.specs.Refusals.{accessRefusal, grantRefusal}
-use Rattle.rules.specs.Calls.{Reply, Answer, refused, unlessRefused, writeReply, readReply, beside, write, read, grantNumber, grant, grantBy}
-use Rattle.rules.specs.Entries.{Outside, Entry, portWrite, portRead, clockGrant, otherGrant, outsideChange, besideBuffers, grantOtherBy, enter, run, systemAtPowerOn, runBy}
+use Rattle.rules.specs.Calls.{Reply, Answer, refused, unlessRefused, beside, write, read, grantNumber, grant, readReplyOver, writeReplyOver, grantOver}
+use Rattle.rules.specs.Steering.{bits}
+use Rattle.rules.specs.Entries.{Outside, Entry, portWrite, portRead, clockGrant, otherGrant, outsideChange, besideBuffers, grantOtherOver, enter, run, systemAtPowerOn, runOver}
 use Rattle.rules.specs.History.{Event, clockNoted, counterZeroed, Past, withCore, writePassed, clockPassed, clocksPassed, grantPassed, notedUnless, noteEntry, history, pastAtPowerOn, clocksPassedBy, grantNotedBy, historyBy}
 use Rattle.rules.specs.Accounts.{ofKind, clocksNoted, bytesOf, bytesNoted, heldBefore, zeroedNoted, clocksAsked, clocksAccepted, numbersOf, Demand3}
 use Rattle.rules.specs.declared.Clocks.{Clocks}
@@ -145,7 +146,7 @@ module _ {M : Type 0} (σ : Store M) where
   as-before s es c = record { world = refl; sum = refl; counts = c }
 
   write-step : (s : System M) (es : List Event) (port byte n : ℕ) → n ≡ accessRefusal (s .world .core) (total (s .clocks)) port → CountsOf s es → Step 0 s (write s port byte) n (notedUnless n (writePassed port byte (pastOf s es)) (pastOf s es) .past)
-  unfolding writeReply unlessRefused notedUnless
+  unfolding writeReplyOver unlessRefused notedUnless
   write-step s es port byte n e c =
       rw e
       (both-picked (λ (r : Reply) (q : Past M). Step 0 s (beside (s .world .buffers) r) (accessRefusal (s .world .core) (total (s .clocks)) port) q)
@@ -154,7 +155,7 @@ module _ {M : Type 0} (σ : Store M) where
       (λ d. record { number = refl; agree = as-before s es c; sum = no-clocks _ _ }))
 
   read-step : (s : System M) (es : List Event) (port n : ℕ) → n ≡ accessRefusal (s .world .core) (total (s .clocks)) port → CountsOf s es → Step 0 s (read s port) n (notedUnless n (withCore (readByte (s .world .core) .core) (pastOf s es)) (pastOf s es) .past)
-  unfolding readReply unlessRefused notedUnless
+  unfolding readReplyOver unlessRefused notedUnless
   read-step s es port n e c =
       rw e
       (both-picked (λ (r : Reply) (q : Past M). Step 0 s (beside (s .world .buffers) r) (accessRefusal (s .world .core) (total (s .clocks)) port) q)
@@ -176,7 +177,7 @@ module _ {M : Type 0} (σ : Store M) where
       record { world = k .world; sum = clocked-total σ n s ∙ sym (clocks-sum n p); counts = k .counts }
 
   own-step : (s : System M) (es : List Event) (n : ℕ) → CountsOf s es → Step n s (grant σ s n) (grantNumber σ s n) (grantNotedBy clockOf σ (s .world .buffers) n (pastOf s es) .past)
-  unfolding grantBy notedUnless
+  unfolding grantOver notedUnless
   own-step s es n c =
       both-picked (λ (a : Answer M) (q : Past M). Step n s a (grantNumber σ s n) q) _ _ _ _ _
       (λ d. record { number = sym (eqb-true _ _ d); agree = granted-agrees s es n c; sum = clocked-total σ n s ∙ granted-clocks n _ })
@@ -188,14 +189,14 @@ module _ {M C : Type 0} (σ : Store M) (ω : Outside M C) where
   otherNumber s n b = grantRefusal σ (s .world .core) (total (s .clocks)) b n
 
   -- it is refused, and nothing changes
-  other-answer : (s : System M) (n : ℕ) (b : Buffers M) → (otherNumber s n b ≡ 0 → ⊥) → _≡_ {A = Answer M} (record { answered = refused (otherNumber s n b); system = s }) (grantOtherBy clockOf σ s n b)
+  other-answer : (s : System M) (n : ℕ) (b : Buffers M) → (otherNumber s n b ≡ 0 → ⊥) → _≡_ {A = Answer M} (record { answered = refused (otherNumber s n b); system = s }) (grantOtherOver bits clockOf σ s n b)
   other-answer s n b wrong =
       ap (λ (a : Answer M). record { answered = a .answered; system = besideBuffers (s .world .buffers) (a .system) })
       (grant-refuses σ (besideBuffers b s) n (otherNumber s n b) refl wrong)
 
   other-step :
       (s : System M) (es : List Event) (n : ℕ) (b : Buffers M) → (otherNumber s n b ≡ 0 → ⊥) → CountsOf s es
-      → Step n s (grantOtherBy clockOf σ s n b) (otherNumber s n b) (grantNotedBy clockOf σ b n (pastOf s es) .past)
+      → Step n s (grantOtherOver bits clockOf σ s n b) (otherNumber s n b) (grantNotedBy clockOf σ b n (pastOf s es) .past)
   unfolding notedUnless
   other-step s es n b wrong c =
       subst (λ (a : Answer M). Step n s a (otherNumber s n b) (grantNotedBy clockOf σ b n (pastOf s es) .past))
@@ -229,7 +230,7 @@ module _ {M C : Type 0} (σ : Store M) (ω : Outside M C) where
     numbers : numbersOf (run σ ω es s .answers) ≡ history σ ω es p .numbers
 
   pub ends : (es : List (Entry σ C)) (s : System M) (p : Past M) → Agree s p → Ends es s p
-  unfolding runBy historyBy clocksAccepted numbersOf
+  unfolding runOver historyBy clocksAccepted numbersOf
   ends [] s p a = record { agree = a; sum = sym (add-zero _); numbers = refl }
   ends (e ∷ es) s p a =
       let k = entry-step e s p a in

@@ -10,12 +10,12 @@ use borrow.Author.Tests.{leb-true, le-leb, le-ltb, ltb-false, eqb-true, eqb-fals
 use Rattle.rules.specs.Choice.{Test, test, firstHit}
 use Rattle.rules.specs.Slots.{busHeld}
 use Rattle.rules.specs.PowerOn.{powerOn, noClocks}
-use Rattle.rules.specs.Validity.{valid, total, most64}
+use Rattle.rules.specs.Validity.{valid, total, most64, validIf}
 use Rattle.rules.specs.Facts.{ValidParts, InRange, Kept}
 use Rattle.rules.specs.Buffers.{Store, flat, Buffers}
 use Rattle.rules.specs.World.{System, clocked}
-use Rattle.rules.specs.Refusals.{wrongPort, accessRefusal, lentRefusal, grantRefusal}
-use Rattle.rules.specs.Calls.{Reply, Answer, accepted, refused, unlessRefused, writeReply, readReply, write, read, grantNumber, grant, grantBy}
+use Rattle.rules.specs.Refusals.{wrongPort, accessRefusal, grantRefusal, grantRefusalIf, accessRefusalIf, lentRefusalIf}
+use Rattle.rules.specs.Calls.{Reply, Answer, accepted, refused, unlessRefused, writeReply, readReply, write, read, grantNumber, grant, readReplyOver, grantOver, writeReplyOver}
 use Rattle.rules.specs.Keeping.{ValidDevice, StaysValid, StaysValidByTest, HandsBack}
 use Rattle.rules.specs.Opened.{opened}
 use Rattle.rules.specs.declared.Clocks.{Clocks}
@@ -50,7 +50,7 @@ pub record Access (c : Core) (sum port : ℕ) : Type 0 where
   pub free : busHeld c ≡ false
 
 pub access : (c : Core) (sum port : ℕ) → accessRefusal c sum port ≡ 0 → Access c sum port
-unfolding accessRefusal
+unfolding accessRefusalIf
 access c sum port e =
     let h = missed _ _ (tells 0 _) e in
     let i = missed _ _ (tells 1 _) (h .1) in
@@ -65,7 +65,7 @@ pub record Granted {M : Type 0} (σ : Store M) (c : Core) (sum : ℕ) (b : Buffe
 
 module _ {M : Type 0} (σ : Store M) where
   pub granted : (c : Core) (sum : ℕ) (b : Buffers M) (n : ℕ) → grantRefusal σ c sum b n ≡ 0 → Granted σ c sum b n
-  unfolding grantRefusal lentRefusal
+  unfolding grantRefusalIf lentRefusalIf
   granted c sum b n e =
       let h = missed _ _ (tells 0 _) e in
       let i = missed _ _ (λ t z. eqb-false _ _ (not-true _ t) z) (h .1) in
@@ -79,7 +79,7 @@ module _ {M : Type 0} (σ : Store M) where
       }
 
   pub grantable : (c : Core) (sum : ℕ) (b : Buffers M) (n : ℕ) → Granted σ c sum b n → grantRefusal σ c sum b n ≡ 0
-  unfolding grantRefusal lentRefusal firstHit
+  unfolding grantRefusalIf lentRefusalIf firstHit
   grantable c sum b n g =
       pick-false _ _ _ (ap not (g .state))
       ∙ pick-false _ _ _ (ap not (eq-eqb _ _ (g .memory)))
@@ -90,11 +90,11 @@ module _ {M : Type 0} (σ : Store M) where
 
 -- the test of validity is true of it, and false of no other core within its types
 pub device-valid : (c : Core) (k : Clocks) → ValidDevice c k → valid c (total k) ≡ true
-unfolding valid
+unfolding validIf
 device-valid c k s = true-all _ (parts-core c (s .core .valid), (le-leb _ _ (s .sum), tt))
 
 pub valid-device : (c : Core) (k : Clocks) → InRange c → valid c (total k) ≡ true → ValidDevice c k
-unfolding valid
+unfolding validIf
 valid-device c k r e =
     let h = all-true _ e in record { core = record { valid = core-parts c (h .0); range = r }; sum = leb-true _ _ (h .1 .0) }
 
@@ -131,12 +131,12 @@ unless-refused number byte next c k =
     _ _ _ (λ e n. absurd (n refl)) (λ e n. refl)
 
 write-valid : (c : Core) (k : Clocks) (port byte : ℕ) → byte < 256 → ValidDevice c k → ValidDevice (writeReply c k port byte .core) (writeReply c k port byte .clocks)
-unfolding writeReply
+unfolding writeReplyOver
 write-valid c k port byte h s =
     unless-valid _ _ _ c k (λ e. write-kept port byte c h (access c (total k) port e .free) (s .core)) s
 
 read-valid : (c : Core) (k : Clocks) (port : ℕ) → ValidDevice c k → ValidDevice (readReply c k port .core) (readReply c k port .clocks)
-unfolding readReply
+unfolding readReplyOver
 read-valid c k port s = unless-valid _ _ _ c k (λ e. read-kept c (s .core)) s
 
 abbrev pub ValidSystem : {M : Type 0} → System M → Type 0
@@ -144,7 +144,7 @@ ValidSystem s = ValidDevice (s .world .core) (s .clocks)
 
 module _ {M : Type 0} (σ : Store M) where
   grant-valid : (s : System M) (n : ℕ) → ValidSystem s → ValidSystem (grant σ s n .system)
-  unfolding grantBy
+  unfolding grantOver
   grant-valid s n h =
       pick-cases (λ (a : Answer M). ValidSystem (a .system)) _ _ _
       (λ e.
@@ -154,29 +154,29 @@ module _ {M : Type 0} (σ : Store M) where
 
   -- a refused one hands everything back
   grant-refused : (s : System M) (n : ℕ) → (grant σ s n .answered .number ≡ 0 → ⊥) → grant σ s n ≡ record { answered = record { number = grantNumber σ s n; byte = 0 }; system = s }
-  unfolding grantBy
+  unfolding grantOver
   grant-refused s n =
       pick-cases
       (λ (a : Answer M). (a .answered .number ≡ 0 → ⊥) → a ≡ record { answered = record { number = grantNumber σ s n; byte = 0 }; system = s })
       _ _ _ (λ e n. absurd (n refl)) (λ e n. refl)
 
 write-refused : (c : Core) (k : Clocks) (port byte : ℕ) → (writeReply c k port byte .answered .number ≡ 0 → ⊥) → writeReply c k port byte ≡ record { answered = record { number = accessRefusal c (total k) port; byte = 0 }; core = c; clocks = k }
-unfolding writeReply
+unfolding writeReplyOver
 write-refused c k port byte = unless-refused _ _ _ c k
 
 read-refused : (c : Core) (k : Clocks) (port : ℕ) → (readReply c k port .answered .number ≡ 0 → ⊥) → readReply c k port ≡ record { answered = record { number = accessRefusal c (total k) port; byte = 0 }; core = c; clocks = k }
-unfolding readReply
+unfolding readReplyOver
 read-refused c k port = unless-refused _ _ _ c k
 
 -- ---- a grant by its number
 
 module _ {M : Type 0} (σ : Store M) where
   pub grant-accepts : (s t : System M) (n : ℕ) → grantNumber σ s n ≡ 0 → t ≡ clocked σ n s → _≡_ {A = Answer M} (record { answered = accepted 0; system = t }) (grant σ s n)
-  unfolding grantBy
+  unfolding grantOver
   grant-accepts s t n e h = sym (pick-true _ _ _ (eq-eqb _ _ e) ∙ (λ i. record { answered = accepted 0; system = sym h i }))
 
   pub grant-refuses : (s : System M) (n k : ℕ) → grantNumber σ s n ≡ k → (k ≡ 0 → ⊥) → _≡_ {A = Answer M} (record { answered = refused k; system = s }) (grant σ s n)
-  unfolding grantBy
+  unfolding grantOver
   grant-refuses s n k e h =
       sym
       (pick-false _ _ _ (ne-eqb _ _ (λ z. h (sym e ∙ z))) ∙ (λ i. record { answered = refused (e i); system = s }))
@@ -187,11 +187,11 @@ flat-memory m e = let h = missed _ _ (tells 3 _) e in eqb-true _ _ (not-false _ 
 
 -- the sum of a valid device's clock counts fits
 pub valid-parts : (c : Core) (sum : ℕ) → valid c sum ≡ true → ValidParts c
-unfolding valid
+unfolding validIf
 valid-parts c sum e = core-parts c (all-true _ e .0)
 
 pub valid-fits : (c : Core) (sum : ℕ) → valid c sum ≡ true → sum ≤ most64
-unfolding valid
+unfolding validIf
 valid-fits c sum e = leb-true _ _ (all-true _ e .1 .0)
 
 -- ---- what every call keeps

@@ -6,7 +6,7 @@ use mathlib.Core.Path.{_≡_, refl, sym, _∙_}
 use mathlib.Core.Bool.{Bool, true, false, _&&_, _||_, not}
 use mathlib.Core.List.{List, [], _∷_}
 use borrow.Author.Tests.{not-true, not-false}
-use Rattle.rules.specs.Choice.{pick, Row, firstOf, every, any, means}
+use Rattle.rules.specs.Choice.{pick, Row, _⇒_, firstOf, every, any, means}
 
 -- true is not false
 pub clash {ℓ} : {X : Type ℓ} → false ≡ true → X
@@ -60,6 +60,27 @@ unfolding firstOf
 table P (below p) = p
 table P (p ⨾ ps) = pick-both P _ _ _ p (table P ps)
 table P (under f ps) = pick-cases P _ _ _ f (λ e. table P ps)
+
+infixr 5 _∥_
+-- two tables with the same tests: something holds between what their rows give, one by one, and what stands below them
+pub data Pairs {X Y : Type 0} (R : X → Y → Type 0) : List (Row X) → X → List (Row Y) → Y → Type 0 where
+  ends : {x : X} {y : Y} → R x y → Pairs R [] x [] y
+  _∥_ : {t : Bool} {u x : X} {v y : Y} {rs : List (Row X)} {qs : List (Row Y)} → R u v → Pairs R rs x qs y → Pairs R ((t ⇒ u) ∷ rs) x ((t ⇒ v) ∷ qs) y
+
+-- then it holds between what the tables give
+pub tables : {X Y : Type 0} (R : X → Y → Type 0) {rs : List (Row X)} {x : X} {qs : List (Row Y)} {y : Y} → Pairs R rs x qs y → R (firstOf rs x) (firstOf qs y)
+unfolding firstOf
+tables R (ends h) = h
+tables R (h ∥ hs) = both-picked R _ _ _ _ _ (λ e. h) (λ e. tables R hs)
+
+-- a row passed by leaves it to those below; one whose test holds settles it
+pub row-passed : {X : Type 0} (r : Row X) (rs : List (Row X)) (x : X) → r .holds ≡ false → firstOf (r ∷ rs) x ≡ firstOf rs x
+unfolding firstOf
+row-passed r rs x e = pick-false _ _ _ e
+
+pub row-taken : {X : Type 0} (r : Row X) (rs : List (Row X)) (x : X) → r .holds ≡ true → firstOf (r ∷ rs) x ≡ r .result
+unfolding firstOf
+row-taken r rs x e = pick-true _ _ _ e
 
 pub not-of-false : (t : Bool) → t ≡ false → not t ≡ true
 not-of-false true e = clash (sym e)

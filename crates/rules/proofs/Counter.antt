@@ -13,7 +13,7 @@ use Rattle.rules.specs.Choice.{pick, any}
 use Rattle.rules.specs.Selection.{selects}
 use Rattle.rules.specs.Pending.{isPending}
 use Rattle.rules.specs.Commands.{enable, readingCommand, command}
-use Rattle.rules.specs.Registers.{wr3, register, parameter, inMode, carriedOut, effect, written}
+use Rattle.rules.specs.Registers.{wr3, register, parameter, inMode, effect, written, carriedOutAs, effectOver}
 use Rattle.rules.specs.Readback.{Byte, readByte}
 use Rattle.rules.specs.Clock.{Clock, movesAt, movedAt, Ending, slotEnd, clockEnd, slotClock, begun, clockOf}
 use Rattle.rules.specs.History.{zeroing}
@@ -54,9 +54,9 @@ module _ (byte : ℕ) (c : Core) (load : eqb byte 0xCF ≡ false) (continue : eq
   unfolding register
   register-same number = table (Same c) (refl ⨾ refl ⨾ refl ⨾ wr3-same ⨾ refl ⨾ refl ⨾ command-same ⨾ below refl)
 
-parameter-same : (code byte : ℕ) (c : Core) → Same c (parameter code byte c)
+parameter-same : (which byte : ℕ) (c : Core) → Same c (parameter which byte c)
 unfolding parameter
-parameter-same code byte c =
+parameter-same which byte c =
     table (Same c) (refl ⨾ refl ⨾ refl ⨾ refl ⨾ refl ⨾ refl ⨾ refl ⨾ refl ⨾ refl ⨾ below refl)
 
 -- Load and Continue
@@ -75,13 +75,13 @@ register-zero byte c e =
 
 -- an accepted write
 zeroing-effect : (byte : ℕ) (c : Core) → zeroing byte c ≡ true → effect byte c .block .counter ≡ 0
-unfolding effect carriedOut zeroing
+unfolding effectOver carriedOutAs zeroing
 zeroing-effect byte c =
     either (isPending (c .pending)) (λ p z. clash (sym (pick-true _ _ _ p) ∙ z))
     (λ p z. ap (λ (d : Core). d .block .counter) (pick-false _ _ _ p) ∙ register-zero byte c (sym (pick-false _ _ _ p) ∙ z))
 
 other-effect : (byte : ℕ) (c : Core) → zeroing byte c ≡ false → Same c (effect byte c)
-unfolding effect carriedOut zeroing
+unfolding effectOver carriedOutAs zeroing
 other-effect byte c =
     either (isPending (c .pending))
     (λ p z. ap (λ (d : Core). d .block .counter) (pick-true _ _ _ p) ∙ parameter-same _ byte _)

@@ -7,7 +7,7 @@ use lib.ListN.{set, length-set}
 use Rattle.rules.specs.Bytes.{AreBytes}
 use Rattle.rules.specs.Buffers.{Store}
 use Rattle.rules.specs.World.{System}
-use Rattle.rules.specs.Entries.{Outside, poked, Entry, portWrite, portRead, clockGrant, otherGrant, outsideChange, bytesWritten, Run, enter, run, systemAtPowerOn, PokesKeepLength, runBy}
+use Rattle.rules.specs.Entries.{Outside, poked, Entry, portWrite, portRead, clockGrant, otherGrant, outsideChange, bytesWritten, Run, enter, run, systemAtPowerOn, PokesKeepLength, runOver}
 use Rattle.rules.proofs.Calls.{ValidSystem, stays-valid}
 
 module _ {M C : Type 0} (σ : Store M) (ω : Outside M C) where
@@ -22,7 +22,7 @@ module _ {M C : Type 0} (σ : Store M) (ω : Outside M C) where
 
   -- a list of entries
   run-valid : (es : List (Entry σ C)) (s : System M) → AreBytes (bytesWritten es) → ValidSystem s → ValidSystem (run σ ω es s .system)
-  unfolding runBy
+  unfolding runOver
   run-valid [] s b v = v
   run-valid (e ∷ es) s b v = let h = entry-valid e es s b v in run-valid es _ (h .1) (h .0)
 
@@ -31,7 +31,7 @@ module _ {M C : Type 0} (σ : Store M) (ω : Outside M C) where
 
   -- a list behind another
   pub run-behind : (xs ys : List (Entry σ C)) (s : System M) → run σ ω (xs ++ ys) s ≡ record { answers = run σ ω xs s .answers ++ run σ ω ys (run σ ω xs s .system) .answers; system = run σ ω ys (run σ ω xs s .system) .system }
-  unfolding runBy
+  unfolding runOver
   run-behind [] ys s = refl
   run-behind (x ∷ xs) ys s =
       ap

@@ -6,6 +6,8 @@ pub mod Validity
 pub mod Slots
 pub mod Ports
 pub mod Parameters
+pub mod Aside
+pub mod Sequences
 pub mod Awaiting
 pub mod Selection
 pub mod Steady
@@ -26,3 +28,4 @@ pub mod Accounts
 pub mod SplittingLists
 pub mod Reached
 pub mod Recheck
+pub mod Numbered

@@ -1,138 +1,131 @@
--- What is pending after a byte is valid where what was pending is: each sequence asked for is tried, and those after the next
--- one follow each other as before.
+-- What is pending after a byte is valid where what was pending is: a valid number is at most 512, and all of these are tried.
+-- What a register's byte asks for is a part of the byte, moved to its bits.
 -- Assumes nothing.
-use Prim.Native.Nat.{ℕ, _≤_, _<_}
+use Prim.Native.Nat.{ℕ, zero, suc, _+_, _*_, _/_, _%_, _<_}
 use native.Mathlib.Omega.{arith}
-use mathlib.Core.Path.{_≡_, refl}
-use mathlib.Core.Bool.{Bool, true, false}
-use mathlib.Core.List.{[], _∷_}
-use borrow.Author.Tests.{ltb-true, leb-true, eqb-true, le-leb}
-use Rattle.rules.specs.Choice.{every}
+use mathlib.Core.Path.{_≡_, refl, _∙_, ap}
+use mathlib.Core.Bool.{Bool, true}
+use lib.Dec.{eqb}
+use borrow.Author.Tests.{ltb-true, eqb-true}
+use Rattle.rules.specs.Choice.{means}
 use Rattle.rules.specs.Bytes.{bit}
-use Rattle.rules.specs.Pending.{aLow, aHigh, lengthLow, lengthHigh, aTiming, bTiming, prescaler, bLow, bHigh, codes, nothing, next, rest, ask, wr0Asks, wr1Asks, wr2Asks, wr4Asks, maskAsked, asked, usedUp, pendingAfter, follows, validPending}
+use Rattle.rules.specs.Pending.{aLow, aHigh, lengthLow, lengthHigh, aTiming, bTiming, prescaler, bLow, bHigh, readMask, nothing, next, rest, ask, wr0Asks, wr1Asks, wr2Asks, wr4Asks, asked, usedUp, pendingAfterAs, pendingAfter, validPending}
 use Rattle.rules.specs.Opened.{opened}
-use Rattle.rules.specs.declared.Pending.{Pending}
-use Rattle.rules.proofs.Choice.{pick-cases, pick-both, below, _⨾_, table, every-first, all-true, true-all, any-first, any-cases, any-none}
+use Rattle.rules.proofs.Choice.{pick-both, below, _⨾_, table, all-true, any-cases, any-none, means-so}
+use Rattle.rules.proofs.Trying.{allBelow, below-at}
 
--- a test that holds at true and at false holds at every Bool
-abbrev anyway : (Bool → Bool) → Bool
-anyway f = every (f true ∷ f false ∷ [])
+abbrev Valid : ℕ → Type 0
+Valid p = validPending p ≡ true
 
-anyway-at : (f : Bool → Bool) → anyway f ≡ true → (t : Bool) → f t ≡ true
-anyway-at f e true = all-true _ e .0
-anyway-at f e false = all-true _ e .1 .0
+valid-small : (p : ℕ) → Valid p → p < 513
+unfolding validPending
+valid-small p e =
+    any-cases _ _ e (λ h. let z : p < 16 = ltb-true _ _ h in omega (arith, z))
+    (λ e. any-cases _ _ e (λ h. let z : p ≡ 16 = eqb-true _ _ h in omega (arith, z))
+    (λ e. any-cases _ _ e (λ h. let z : p ≡ 32 = eqb-true _ _ h in omega (arith, z))
+    (λ e. any-cases _ _ e (λ h. let z : p ≡ 64 = eqb-true _ _ h in omega (arith, z))
+    (λ e. any-cases _ _ e (λ h. let z : p < 512 = ltb-true _ _ (all-true _ h .1 .0) in omega (arith, z))
+    (λ e. any-cases _ _ e (λ h. let z : p ≡ 512 = eqb-true _ _ h in omega (arith, z)) any-none)))))
+
+-- a test that holds of every valid number up to 512 holds of every valid number
+pub each-number : (f : ℕ → Bool) → allBelow 513 (λ p. means (validPending p) (f p)) ≡ true → (p : ℕ) → Valid p → f p ≡ true
+each-number f t p e = means-so _ _ (below-at 513 (λ p. means (validPending p) (f p)) t p (valid-small p e)) e
 
 -- ---- the parameters that a register's byte asks for
 
-wr0-ways : Bool → Bool → Bool → Bool → Bool
-wr0-ways s t u v = validPending (ask s aLow (ask t aHigh (ask u lengthLow (ask v lengthHigh nothing))))
+-- a bit asks for its parameter or for none
+ask-bit : (x parameter p : ℕ) → x < 2 → ask (eqb x 1) parameter p ≡ x * parameter + p
+unfolding opened
+ask-bit zero parameter p h = omega arith
+ask-bit (suc zero) parameter p h = omega arith
+ask-bit (suc (suc x)) parameter p h = absurd (omega (arith, h))
 
-wr0-ways-valid : (s t u v : Bool) → wr0-ways s t u v ≡ true
-unfolding opened wr0-ways
-wr0-ways-valid s t u v =
-    anyway-at (wr0-ways s t u)
-    (anyway-at (λ u. anyway (wr0-ways s t u))
-    (anyway-at (λ t. anyway (λ u. anyway (wr0-ways s t u)))
-    (anyway-at (λ s. anyway (λ t. anyway (λ u. anyway (wr0-ways s t u)))) refl s) t) u) v
+-- a number of two bits, and of four
+two-bits : (x y : ℕ) → y ≡ x / 2 → x % 4 ≡ x % 2 * 1 + y % 2 * 2
+two-bits x y e = omega (arith, e)
 
-pub wr0-valid : (byte : ℕ) → validPending (wr0Asks byte) ≡ true
-unfolding wr0-ways
-wr0-valid byte = wr0-ways-valid (bit 3 byte) (bit 4 byte) (bit 5 byte) (bit 6 byte)
+four-bits : (x y : ℕ) → y ≡ x / 4 → x % 16 ≡ x % 4 + 4 * (y % 4)
+four-bits x y e = omega (arith, e)
 
-wr4-ways : Bool → Bool → Bool
-wr4-ways s t = validPending (ask s bLow (ask t bHigh nothing))
+together : (a b c d x y z : ℕ) → x ≡ y + 4 * z → y ≡ a * 1 + b * 2 → z ≡ c * 1 + d * 2 → a * aLow + (b * aHigh + (c * lengthLow + (d * lengthHigh + 0))) ≡ x
+together a b c d x y z e f g = omega (arith, e, f, g)
 
-pub wr4-valid : (byte : ℕ) → validPending (wr4Asks byte) ≡ true
-unfolding opened wr4-ways
-wr4-valid byte =
-    anyway-at (wr4-ways (bit 2 byte)) (anyway-at (λ s. anyway (wr4-ways s)) refl (bit 2 byte)) (bit 3 byte)
+pub wr0-number : (byte : ℕ) → wr0Asks byte ≡ byte / 8 % 16
+wr0-number byte =
+    let d = ask-bit (byte / 64 % 2) lengthHigh nothing (omega arith) in
+    let c = ask-bit (byte / 32 % 2) lengthLow (ask (bit 6 byte) lengthHigh nothing) (omega arith) in
+    let b = ask-bit (byte / 16 % 2) aHigh (ask (bit 5 byte) lengthLow (ask (bit 6 byte) lengthHigh nothing)) (omega arith) in
+    let a = ask-bit (byte / 8 % 2) aLow (ask (bit 4 byte) aHigh (ask (bit 5 byte) lengthLow (ask (bit 6 byte) lengthHigh nothing))) (omega arith) in
+    let e = four-bits (byte / 8) (byte / 32) (omega arith) in
+    let f = two-bits (byte / 8) (byte / 16) (omega arith) in
+    let g = two-bits (byte / 32) (byte / 64) (omega arith) in
+    a ∙ ap (λ x. byte / 8 % 2 * aLow + x) (b ∙ ap (λ x. byte / 16 % 2 * aHigh + x) (c ∙ ap (λ x. byte / 32 % 2 * lengthLow + x) d)) ∙ together (byte / 8 % 2) (byte / 16 % 2) (byte / 32 % 2) (byte / 64 % 2) _ _ _ e f g
 
--- a code asked for alone
-alone-ways : ℕ → Bool → Bool
-alone-ways code t = validPending (ask t code nothing)
+pub wr1-number : (byte : ℕ) → wr1Asks byte ≡ byte / 64 % 2 * aTiming
+wr1-number byte = let a = ask-bit (byte / 64 % 2) aTiming nothing (omega arith) in omega (arith, a)
 
-pub wr1-valid : (byte : ℕ) → validPending (wr1Asks byte) ≡ true
-unfolding opened alone-ways
-wr1-valid byte = anyway-at (alone-ways aTiming) refl (bit 6 byte)
+pub wr2-number : (byte : ℕ) → wr2Asks byte ≡ byte / 64 % 2 * bTiming
+wr2-number byte = let a = ask-bit (byte / 64 % 2) bTiming nothing (omega arith) in omega (arith, a)
 
-pub wr2-valid : (byte : ℕ) → validPending (wr2Asks byte) ≡ true
-unfolding opened alone-ways
-wr2-valid byte = anyway-at (alone-ways bTiming) refl (bit 6 byte)
+pair : (a b x : ℕ) → x ≡ a * 1 + b * 2 → a * bLow + (b * bHigh + 0) ≡ x * bLow
+pair a b x e = omega (arith, e)
 
-pub prescaler-alone : (t : Bool) → validPending (ask t prescaler nothing) ≡ true
-unfolding opened alone-ways
-prescaler-alone t = anyway-at (alone-ways prescaler) refl t
+pub wr4-number : (byte : ℕ) → wr4Asks byte ≡ byte / 4 % 4 * bLow
+wr4-number byte =
+    let b = ask-bit (byte / 8 % 2) bHigh nothing (omega arith) in
+    let a = ask-bit (byte / 4 % 2) bLow (ask (bit 3 byte) bHigh nothing) (omega arith) in
+    let e = two-bits (byte / 4) (byte / 8) (omega arith) in
+    a ∙ ap (λ x. byte / 4 % 2 * bLow + x) b ∙ pair (byte / 4 % 2) (byte / 8 % 2) _ e
 
-pub mask-valid : validPending maskAsked ≡ true
+-- a number below n, moved to its bits by f, is valid where all of these are
+scaled-valid : (n x : ℕ) (f : ℕ → ℕ) → allBelow n (λ y. validPending (f y)) ≡ true → x < n → Valid (f x)
+scaled-valid n x f t h = below-at n (λ y. validPending (f y)) t x h
+
+pub wr0-valid : (byte : ℕ) → Valid (wr0Asks byte)
+unfolding opened allBelow
+wr0-valid byte = rw (wr0-number byte) (scaled-valid 16 (byte / 8 % 16) (λ y. y) refl (omega arith))
+
+pub wr1-valid : (byte : ℕ) → Valid (wr1Asks byte)
+unfolding opened allBelow
+wr1-valid byte = rw (wr1-number byte) (scaled-valid 2 (byte / 64 % 2) (λ y. y * aTiming) refl (omega arith))
+
+pub wr2-valid : (byte : ℕ) → Valid (wr2Asks byte)
+unfolding opened allBelow
+wr2-valid byte = rw (wr2-number byte) (scaled-valid 2 (byte / 64 % 2) (λ y. y * bTiming) refl (omega arith))
+
+pub wr4-valid : (byte : ℕ) → Valid (wr4Asks byte)
+unfolding opened allBelow
+wr4-valid byte = rw (wr4-number byte) (scaled-valid 4 (byte / 4 % 4) (λ y. y * bLow) refl (omega arith))
+
+pub prescaler-valid : Valid prescaler
+unfolding opened
+prescaler-valid = refl
+
+pub mask-valid : Valid readMask
 unfolding opened
 mask-valid = refl
 
--- ---- those after the next one
+-- ---- the next one, and those after it
 
--- what stands behind x: nothing, or a later parameter of WR0 or of WR4
-follows-cases {ℓ} : {X : Type ℓ} (x y : ℕ) → follows x y ≡ true → (y ≡ 0 → X) → (aLow ≤ x → x < y → y ≤ lengthHigh → X) → (bLow ≤ x → x < y → y ≤ bHigh → X) → X
-unfolding follows
-follows-cases x y e f g h =
-    any-cases _ _ e (λ d. f (eqb-true _ _ d))
-    (λ r. any-cases _ _ r (λ d. let k = all-true _ d in g (leb-true _ _ (k .0)) (ltb-true _ _ (k .1 .0)) (leb-true _ _ (k .1 .1 .0)))
-    (λ q. any-cases _ _ q (λ d. let k = all-true _ d in h (leb-true _ _ (k .0)) (ltb-true _ _ (k .1 .0)) (leb-true _ _ (k .1 .1 .0))) any-none))
+-- bit 0 tells odd from even
+pub odd : (p : ℕ) → bit 0 p ≡ eqb (p % 2) 1
+odd p = ap (λ (x : ℕ). eqb (x % 2) 1) (let z : p / 1 ≡ p = omega arith in z)
 
-pub follows-small : (x y : ℕ) → follows x y ≡ true → y ≤ 10
-follows-small x y e = follows-cases x y e (λ d. omega arith) (λ i j k. omega arith) (λ i j k. omega arith)
-
--- nothing stands behind nothing
-follows-nothing : (x y : ℕ) → follows x y ≡ true → x ≡ 0 → y ≡ 0
-follows-nothing x y e z = follows-cases x y e (λ d. d) (λ i j k. omega arith) (λ i j k. omega arith)
-
--- nor behind B timing
-follows-timing : (x y : ℕ) → follows x y ≡ true → x ≡ bTiming → y ≡ 0
-follows-timing x y e z = follows-cases x y e (λ d. d) (λ i j k. omega arith) (λ i j k. omega arith)
-
--- B timing is the last of its sequence
-timing-last : (p : Pending) → validPending p ≡ true → next p ≡ bTiming → rest p ≡ nothing
-unfolding validPending
-timing-last p e z =
-    let h = all-true _ e in
-    let s : p .second ≡ 0 = follows-timing _ _ (h .1 .0) z in
-    let t : p .third ≡ 0 = follows-nothing _ _ (h .1 .1 .0) s in
-    let f : p .fourth ≡ 0 = follows-nothing _ _ (h .1 .1 .1 .0) t in
-    λ i. codes (s i) (t i) (f i) 0
-
-follows-end : (x : ℕ) → follows x 0 ≡ true
-unfolding follows
-follows-end x = any-first _ _ refl
-
-pub rest-valid : (p : Pending) → validPending p ≡ true → validPending (rest p) ≡ true
-unfolding validPending
-rest-valid p e =
-    let h = all-true _ e in
-    true-all _
-    (le-leb (p .second) 10 (follows-small (p .first) (p .second) (h .1 .0)), (h .1 .1 .0, (h .1 .1 .1 .0, (follows-end (p .fourth), tt))))
+pub rest-valid : (p : ℕ) → Valid p → Valid (rest p)
+unfolding opened allBelow
+rest-valid p e = each-number (λ p. validPending (rest p)) refl p e
 
 -- ---- what is pending after a byte
 
-abbrev Valid : Pending → Type 0
-Valid p = validPending p ≡ true
-
--- the prescaler in front of nothing
-prescaler-first : (p : Pending) → p ≡ nothing → Valid (codes prescaler (p .first) (p .second) (p .third))
-unfolding opened
-prescaler-first p e = rw e refl
-
-prescaler-asked : (t : Bool) (p : Pending) → (t ≡ true → p ≡ nothing) → Valid p → Valid (ask t prescaler p)
-unfolding ask
-prescaler-asked t p alone e = pick-cases Valid _ _ _ (λ d. prescaler-first p (alone d)) (λ d. e)
-
-used-valid : (byte : ℕ) (p : Pending) → Valid p → Valid (usedUp byte p)
+used-valid : (byte p : ℕ) → Valid p → Valid (usedUp (next p) byte p)
 unfolding usedUp
-used-valid byte p e =
-    prescaler-asked _ (rest p) (λ t. timing-last p e (eqb-true _ _ (every-first _ _ t))) (rest-valid p e)
+used-valid byte p e = pick-both Valid _ _ _ prescaler-valid (rest-valid p e)
 
-asked-valid : (byte : ℕ) (p : Pending) → Valid p → Valid (asked byte p)
+asked-valid : (byte p : ℕ) → Valid p → Valid (asked byte p)
 unfolding asked
 asked-valid byte p e =
     table Valid (wr0-valid byte ⨾ wr1-valid byte ⨾ wr2-valid byte ⨾ wr4-valid byte ⨾ mask-valid ⨾ below e)
 
-pub after-valid : (byte : ℕ) (p : Pending) → Valid p → Valid (pendingAfter byte p)
-unfolding pendingAfter
+pub after-valid : (byte p : ℕ) → Valid p → Valid (pendingAfter byte p)
+unfolding pendingAfterAs
 after-valid byte p e = pick-both Valid _ _ _ (used-valid byte p e) (asked-valid byte p e)

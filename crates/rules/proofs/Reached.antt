@@ -17,7 +17,7 @@ use Rattle.rules.specs.Clock.{Clock, slotClock, clockOf}
 use Rattle.rules.specs.Buffers.{Store, lengthRefusal, flat, Buffers}
 use Rattle.rules.specs.World.{World, System}
 use Rattle.rules.specs.Refusals.{accessRefusal, grantRefusal}
-use Rattle.rules.specs.Entries.{Outside, Poke, flatOutside, Entry, portWrite, portRead, clockGrant, otherGrant, outsideChange, bytesWritten, enter, run, runBy}
+use Rattle.rules.specs.Entries.{Outside, Poke, flatOutside, Entry, portWrite, portRead, clockGrant, otherGrant, outsideChange, bytesWritten, enter, run, runOver}
 use Rattle.rules.specs.History.{Past, writePassed, notedUnless, clocksPassed, noteEntry, history, clocksPassedBy, historyBy}
 use Rattle.rules.specs.Accounts.{heldBefore}
 use Rattle.rules.specs.Reached.{CountersNoted, EveryReached, NoneIs, Lends, WrongMemory, WrongLatches, OwnServe, AnswersReached}
@@ -122,7 +122,7 @@ entry-answered (otherGrant n b wrong) s v h =
 entry-answered (outsideChange x) s v h = absurd (omega (arith, h))
 
 none-is-one : (es : List (Entry flat (List Poke))) (s : System (List ℕ)) → AreBytes (bytesWritten es) → ValidSystem s → NoneIs 1 (run flat flatOutside es s .answers)
-unfolding runBy NoneIs
+unfolding runOver NoneIs
 none-is-one [] s b v = tt
 none-is-one (e ∷ es) s b v =
     let n = entry-valid flat flatOutside e es s b v in (entry-answered e s v, none-is-one es _ (n .1) (n .0))
@@ -173,7 +173,7 @@ entry-five (otherGrant n b wrong) s o h = λ l. grant-not-five _ _ b n l (sym (r
 entry-five (outsideChange x) s o h = absurd (omega (arith, h))
 
 own-serve : (es : List (Entry flat (List Poke))) (s : System (List ℕ)) → Own (s .world .buffers) → OwnServe es (run flat flatOutside es s .answers)
-unfolding runBy OwnServe
+unfolding runOver OwnServe
 own-serve [] s o = tt
 own-serve (e ∷ es) s o = (entry-four e s o, entry-five e s o, own-serve es _ (entry-own e s o))
 

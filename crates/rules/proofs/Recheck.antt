@@ -16,17 +16,17 @@ use Rattle.rules.specs.Parts.{withSlot}
 use Rattle.rules.specs.Blocks.{blockCount, finished}
 use Rattle.rules.specs.Slots.{newSlot, busHeld}
 use Rattle.rules.specs.PowerOn.{powerOn}
-use Rattle.rules.specs.Validity.{validCore, valid, total}
+use Rattle.rules.specs.Validity.{validCore, valid, total, validIf}
 use Rattle.rules.specs.Facts.{ValidParts}
 use Rattle.rules.specs.Commands.{enable, readingCommand, command}
-use Rattle.rules.specs.Registers.{wr3, register, parameter, carriedOut, effect, inMode, written}
+use Rattle.rules.specs.Registers.{wr3, register, parameter, carriedOut, inMode, written, effectOver, carriedOutAs}
 use Rattle.rules.specs.Readback.{Byte, readByte}
 use Rattle.rules.specs.Clock.{cpuClock, Clock, clock, stopped, movedAt, Ending, slotEnd, clockEnd, slotClock, begun, clockOf}
 use Rattle.rules.specs.Buffers.{Store, Buffers}
 use Rattle.rules.specs.World.{System, stepCountedBy, clockedBy, clocked}
-use Rattle.rules.specs.Refusals.{accessRefusal, lentRefusal, grantRefusal}
-use Rattle.rules.specs.Calls.{Answered, Answer, accepted, grantNumber, grantBy, grant, Reply, unlessRefused, writeReply, readReply}
-use Rattle.rules.specs.Entries.{Outside, Entry, portWrite, portRead, clockGrant, otherGrant, outsideChange, besideBuffers, Run, enterBy, enter, runBy, run, systemAtPowerOn}
+use Rattle.rules.specs.Refusals.{accessRefusal, lentRefusal, grantRefusal, accessRefusalIf, lentRefusalIf}
+use Rattle.rules.specs.Calls.{Answered, Answer, accepted, grantNumber, grantBy, grant, Reply, unlessRefused, writeReply, readReply, readReplyOver, grantOver, writeReplyOver}
+use Rattle.rules.specs.Entries.{Outside, Entry, portWrite, portRead, clockGrant, otherGrant, outsideChange, besideBuffers, Run, enterBy, enter, runBy, run, systemAtPowerOn, runOver}
 use Rattle.rules.specs.History.{Past, EntryNoted, History, notedUnless, grantNotedBy, clockPassedBy, clocksPassedBy, clocksPassed, noteEntryBy, noteEntry, historyBy, history}
 use Rattle.rules.specs.Recheck.{firstClockWithRecheck, clockWithRecheck, recheckHits, RecheckNeverHits, inWait, RecheckNearest, RecheckUnseen}
 use Rattle.rules.specs.Opened.{opened}
@@ -149,19 +149,19 @@ module _ (c : Core) (f : Away c) where
       ⨾ command-unhit byte
       ⨾ below (away-unhit _ f))
 
-  parameter-unhit : (code byte : ℕ) → Unhit (parameter code byte c)
+  parameter-unhit : (which byte : ℕ) → Unhit (parameter which byte c)
   unfolding parameter
-  parameter-unhit code byte =
+  parameter-unhit which byte =
       table Unhit
       (away-unhit _ f ⨾ away-unhit _ f ⨾ away-unhit _ f ⨾ away-unhit _ f ⨾ away-unhit _ f
       ⨾ away-unhit _ f ⨾ away-unhit _ f ⨾ away-unhit _ f ⨾ away-unhit _ f ⨾ below (away-unhit _ f))
 
   carried-unhit : (byte : ℕ) → Unhit (carriedOut byte c)
-  unfolding carriedOut
+  unfolding carriedOutAs
   carried-unhit byte = pick-both Unhit _ _ _ (parameter-unhit _ byte) (register-unhit _ byte)
 
 written-unhit : (port byte : ℕ) (c : Core) → Away c → Unhit (written port byte c)
-unfolding effect recheckHits
+unfolding effectOver recheckHits
 written-unhit port byte c f = carried-unhit (inMode port c) f byte
 
 -- ---- a list of calls
@@ -176,18 +176,18 @@ unfolding unlessRefused
 unless-unhit number byte next c k f h = pick-cases (λ (r : Reply). Unhit (r .core)) _ _ _ (λ e. f (eqb-true _ _ e)) (λ e. h)
 
 write-unhit : (c : Core) (k : Clocks) (port byte : ℕ) → Unhit c → Unhit (writeReply c k port byte .core)
-unfolding writeReply
+unfolding writeReplyOver
 write-unhit c k port byte h =
     unless-unhit _ _ _ c k
     (λ e. let a = access c (total k) port e in written-unhit port byte c (free-away c (valid-parts c (total k) (a .state)) (a .free)))
     h
 
 reply-unhit : (c : Core) (k : Clocks) (port : ℕ) → Unhit c → Unhit (readReply c k port .core)
-unfolding readReply
+unfolding readReplyOver
 reply-unhit c k port h = unless-unhit _ _ _ c k (λ e. read-unhit c h) h
 
 grant-unhit : {M : Type 0} (σ : Store M) (s : System M) (n : ℕ) → Unhit (s .world .core) → Unhit (grant σ s n .system .world .core)
-unfolding grantBy
+unfolding grantOver
 grant-unhit σ s n h =
     pick-both (λ (a : Answer _). Unhit (a .system .world .core)) _ _ _ (clocked-unhit σ s n h) h
 
@@ -200,7 +200,7 @@ module _ {M C : Type 0} (σ : Store M) (ω : Outside M C) where
   entry-unhit (outsideChange x) s h = h
 
   run-unhit : (es : List (Entry σ C)) (s : System M) → Unhit (s .world .core) → Unhit (run σ ω es s .system .world .core)
-  unfolding runBy
+  unfolding runOver
   run-unhit [] s h = h
   run-unhit (e ∷ es) s h = run-unhit es (enter σ ω e s .system) (entry-unhit e s h)
 
@@ -245,16 +245,16 @@ clock-hit c h =
 -- ---- a core at which it hits is not valid
 
 hit-invalid : (c : Core) (sum : ℕ) → recheckHits c ≡ true → not (valid c sum) ≡ true
-unfolding valid
+unfolding validIf
 hit-invalid c sum h =
     not-of-false _ (every-stop _ _ (either (validCore c) (λ v. clash (sym (valid-unhit c v) ∙ h)) (λ v. v)))
 
 access-hit : (c : Core) (sum port : ℕ) → recheckHits c ≡ true → accessRefusal c sum port ≡ 1
-unfolding accessRefusal firstHit
+unfolding accessRefusalIf firstHit
 access-hit c sum port h = pick-true _ _ _ (hit-invalid c sum h)
 
 grant-hit : (c : Core) (sum memory latches n : ℕ) → recheckHits c ≡ true → lentRefusal c sum memory latches n ≡ 1
-unfolding lentRefusal firstHit
+unfolding lentRefusalIf firstHit
 grant-hit c sum memory latches n h = pick-true _ _ _ (hit-invalid c sum h)
 
 -- ---- grants
@@ -275,7 +275,7 @@ module _ {M : Type 0} (σ : Store M) where
       ∙ step-same (clocked σ n s) (clocks-same (clocked σ n s .world .core) (clocked-unhit σ s n h))
 
   grants-same : (s : System M) (n : ℕ) → grantBy clockWithRecheck σ s n ≡ grant σ s n
-  unfolding grantBy
+  unfolding grantOver
   grants-same s n =
       both-picked _≡_ (eqb (grantNumber σ s n) 0) _ _ _ _
       (λ e. ap (λ (t : System M). record { answered = accepted 0; system = t }) (clocked-same n s (accepted-unhit _ _ _ n e)))
@@ -298,7 +298,7 @@ module _ {M C : Type 0} (σ : Store M) (ω : Outside M C) where
   behind a r = record { answers = a ∷ r .answers; system = r .system }
 
   runs-same : (es : List (Entry σ C)) (s : System M) → runBy clockWithRecheck σ ω es s ≡ run σ ω es s
-  unfolding runBy
+  unfolding runOver
   runs-same [] s = refl
   runs-same (e ∷ es) s =
       ap (λ (a : Answer M). behind (a .answered) (runBy clockWithRecheck σ ω es (a .system))) (entry-same e s)

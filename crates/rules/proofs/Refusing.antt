@@ -10,8 +10,8 @@ use Rattle.rules.specs.Choice.{pick, every, test, firstHit}
 use Rattle.rules.specs.Validity.{total}
 use Rattle.rules.specs.Buffers.{flat, Buffers}
 use Rattle.rules.specs.World.{System}
-use Rattle.rules.specs.Refusals.{accessRefusal, lentRefusal, grantRefusal}
-use Rattle.rules.specs.Calls.{Answer, writeReply, readReply, grantNumber, grant, grantBy}
+use Rattle.rules.specs.Refusals.{accessRefusal, grantRefusalIf, accessRefusalIf, lentRefusalIf}
+use Rattle.rules.specs.Calls.{Answer, writeReply, readReply, grantNumber, grant, readReplyOver, grantOver, writeReplyOver}
 use Rattle.rules.specs.Exactly.{AccessExact, GrantExact, RefusalsExact}
 use Rattle.rules.specs.declared.Clocks.{Clocks}
 use Rattle.rules.specs.declared.Core.{Core}
@@ -34,7 +34,7 @@ three-tests true false true = record { one = refl; two = refl; three = refl; non
 three-tests true false false = record { one = refl; two = refl; three = refl; none = refl; most = refl }
 
 pub access-exact : (c : Core) (sum port : ℕ) → AccessExact c sum port
-unfolding accessRefusal
+unfolding accessRefusalIf
 access-exact c sum port =
     let h = three-tests _ _ _ in
     record { one = h .one; two = h .two; three = h .three; none = h .none; most = leb-true _ _ (h .most) }
@@ -67,7 +67,7 @@ four-tests true true true true =
     record { one = refl; four = refl; five = refl; six = refl; none = refl; not-two = refl; not-three = refl; most = refl }
 
 pub grant-exact : (c : Core) (sum : ℕ) (b : Buffers (List ℕ)) (n : ℕ) → GrantExact c sum b n
-unfolding grantRefusal lentRefusal
+unfolding grantRefusalIf lentRefusalIf
 grant-exact c sum b n =
     let h = four-tests _ _ _ _ in
     record {
@@ -81,15 +81,15 @@ grant-exact c sum b n =
 
 -- each call answers with its number
 write-number : (c : Core) (k : Clocks) (port byte : ℕ) → writeReply c k port byte .answered .number ≡ accessRefusal c (total k) port
-unfolding writeReply
+unfolding writeReplyOver
 write-number c k port byte = unless-number _ _ _ c k
 
 read-number : (c : Core) (k : Clocks) (port : ℕ) → readReply c k port .answered .number ≡ accessRefusal c (total k) port
-unfolding readReply
+unfolding readReplyOver
 read-number c k port = unless-number _ _ _ c k
 
 grant-number : (s : System (List ℕ)) (n : ℕ) → grant flat s n .answered .number ≡ grantNumber flat s n
-unfolding grantBy
+unfolding grantOver
 grant-number s n =
     pick-cases (λ (a : Answer (List ℕ)). a .answered .number ≡ grantNumber flat s n) _ _ _ (λ e. sym (eqb-true _ _ e)) (λ e. refl)
 

@@ -10,11 +10,10 @@ use borrow.Author.Tests.{ne-eqb}
 use Rattle.rules.specs.Choice.{pick, firstOf}
 use Rattle.rules.specs.Parts.{withPending}
 use Rattle.rules.specs.Selection.{selects}
-use Rattle.rules.specs.Pending.{isPending, asked, pendingAfter}
-use Rattle.rules.specs.Registers.{register, inMode, carriedOut, effect, written}
+use Rattle.rules.specs.Pending.{isPending, asked, pendingAfterAs, pendingAfter}
+use Rattle.rules.specs.Registers.{register, inMode, carriedOut, effect, written, carriedOutAs, effectOver}
 use Rattle.rules.specs.Exactly.{holding, selected, selecting, SelectionExact}
 use Rattle.rules.specs.Opened.{opened}
-use Rattle.rules.specs.declared.Pending.{Pending}
 use Rattle.rules.specs.declared.Core.{Core}
 use Rattle.rules.proofs.Choice.{pick-false}
 
@@ -63,12 +62,12 @@ mask-selects = refl
 not-mask : (byte : ℕ) → selects byte ≡ 7 → eqb byte 0xBB ≡ false
 not-mask byte e = ne-eqb _ _ (λ (d : byte ≡ 0xBB). let m = sym e ∙ ap selects d ∙ mask-selects in omega (arith, m))
 
-idle-asked : (byte : ℕ) (p : Pending) → selects byte ≡ 7 → asked byte p ≡ p
+idle-asked : (byte p : ℕ) → selects byte ≡ 7 → asked byte p ≡ p
 unfolding asked firstOf pick
 idle-asked byte p e = simp (e, not-mask byte e)
 
 idle-effect : (byte : ℕ) (c : Core) → selects byte ≡ 7 → isPending (c .pending) ≡ false → effect byte c ≡ c
-unfolding effect carriedOut pendingAfter
+unfolding effectOver carriedOutAs pendingAfterAs
 idle-effect byte c h p =
     let q : pendingAfter byte (c .pending) ≡ c .pending = pick-false _ _ _ p ∙ idle-asked byte _ h in
     let d : carriedOut byte c ≡ c = pick-false _ _ _ p ∙ idle-register byte c h in

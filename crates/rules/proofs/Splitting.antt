@@ -10,7 +10,7 @@ use Rattle.rules.specs.Validity.{total}
 use Rattle.rules.specs.Facts.{InRange}
 use Rattle.rules.specs.Buffers.{Store, Buffers, put}
 use Rattle.rules.specs.World.{World, System, buffersAfter, step, clocked}
-use Rattle.rules.specs.Calls.{Answer, grantNumber, grant, grantBy}
+use Rattle.rules.specs.Calls.{Answer, grantNumber, grant, grantOver}
 use Rattle.rules.specs.Splitting.{sumOf, AcceptedInTurn, Splits}
 use Rattle.rules.specs.declared.Place.{Place}
 use Rattle.rules.proofs.Choice.{pick-cases, pick-both}
@@ -42,7 +42,7 @@ module _ {M : Type 0} (σ : Store M) where
       n s (record { memory = refl; latches = refl })
 
   pub grant-same : (s : System M) (n : ℕ) → SameBuffers (s .world .buffers) (grant σ s n .system .world .buffers)
-  unfolding grantBy
+  unfolding grantOver
   grant-same s n =
       pick-both (λ (a : Answer M). SameBuffers (s .world .buffers) (a .system .world .buffers)) _ _ _ (clocked-same n s) (record { memory = refl; latches = refl })
 
@@ -77,7 +77,7 @@ module _ {M : Type 0} (σ : Store M) where
 
   -- an accepted grant has no refusal number, and ends after its clocks
   pub accepted-number : (s : System M) (n : ℕ) → grant σ s n .answered .number ≡ 0 → grantNumber σ s n ≡ 0
-  unfolding grantBy
+  unfolding grantOver
   accepted-number s n =
       pick-cases (λ (a : Answer M). a .answered .number ≡ 0 → grantNumber σ s n ≡ 0) _ _ _ (λ e h. eqb-true _ _ e) (λ e h. h)
 

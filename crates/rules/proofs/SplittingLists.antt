@@ -9,8 +9,8 @@ use lib.ListN.{length}
 use borrow.Author.Tests.{eq-eqb}
 use Rattle.rules.specs.Buffers.{Store}
 use Rattle.rules.specs.World.{System}
-use Rattle.rules.specs.Calls.{Answer, grant, grantBy}
-use Rattle.rules.specs.Entries.{Outside, Entry, clockGrant, Run, enter, run, systemAtPowerOn, runBy}
+use Rattle.rules.specs.Calls.{Answer, grant, grantOver}
+use Rattle.rules.specs.Entries.{Outside, Entry, clockGrant, Run, enter, run, systemAtPowerOn, runOver}
 use Rattle.rules.specs.History.{Past, notedUnless, clockPassed, clocksPassed, grantPassed, noteEntry, history, pastAtPowerOn, clocksPassedBy, historyBy}
 use Rattle.rules.specs.Splitting.{sumOf, AcceptedInTurn, grants, acceptedAnswers, SplitsWithin}
 use Rattle.rules.proofs.Choice.{pick-true, pick-both}
@@ -23,17 +23,17 @@ module _ {M C : Type 0} (σ : Store M) (ω : Outside M C) where
 
   -- one answer for each entry
   answers-each : (es : List (Entry σ C)) (s : System M) → length (run σ ω es s .answers) ≡ length es
-  unfolding runBy
+  unfolding runOver
   answers-each [] s = refl
   answers-each (e ∷ es) s = ap suc (answers-each es (enter σ ω e s .system))
 
   grant-byte : (s : System M) (n : ℕ) → grant σ s n .answered .byte ≡ 0
-  unfolding grantBy
+  unfolding grantOver
   grant-byte s n = pick-both (λ (a : Answer M). a .answered .byte ≡ 0) _ _ _ refl refl
 
   -- grants that are accepted in turn
   grants-run : (ns : List ℕ) (s t : System M) → AcceptedInTurn σ ns s t → run σ ω (grants ns) s ≡ record { answers = acceptedAnswers ns; system = t }
-  unfolding runBy grants AcceptedInTurn acceptedAnswers
+  unfolding runOver grants AcceptedInTurn acceptedAnswers
   grants-run [] s t a = λ i. record { answers = []; system = a i }
   grants-run (n ∷ ns) s t a =
       let h = grants-run ns (grant σ s n .system) t (a .1) in

@@ -1,6 +1,6 @@
 -- The parts of a kept core that neither the slot nor being enabled bears on, and a kept core put together from its parts.
 -- Assumes nothing.
-use Prim.Native.Nat.{_≤_, _<_}
+use Prim.Native.Nat.{ℕ, _≤_, _<_}
 use mathlib.Core.Path.{_≡_}
 use mathlib.Core.Bool.{true, false}
 use Rattle.rules.specs.Blocks.{finished}
@@ -11,13 +11,12 @@ use Rattle.rules.specs.declared.Port.{Port}
 use Rattle.rules.specs.declared.Block.{Block}
 use Rattle.rules.specs.declared.Control.{Control}
 use Rattle.rules.specs.declared.Readback.{Readback}
-use Rattle.rules.specs.declared.Pending.{Pending}
 use Rattle.rules.specs.declared.Core.{Core}
 use Rattle.rules.proofs.Validity.{cycle-port, readback-reading, reading-readback, slot-facts, facts-slot, progress-facts, facts-progress}
 use Rattle.rules.proofs.Ports.{GoodPort, good-port}
 
 -- both ports, the block, the control, the read-back state and the pending parameters, valid and within their types
-pub record Steady (x y : Port) (k : Block) (t : Control) (r : Readback) (p : Pending) : Type 0 where
+pub record Steady (x y : Port) (k : Block) (t : Control) (r : Readback) (p : ℕ) : Type 0 where
   pub a : GoodPort x
   pub b : GoodPort y
   pub counter : k .counter ≤ 65536
@@ -31,7 +30,7 @@ abbrev pub SteadyCore : Core → Type 0
 SteadyCore c = Steady (c .a) (c .b) (c .block) (c .control) (c .readback) (c .pending)
 
 -- each part may be replaced by one that is as good
-module _ {a b : Port} {k : Block} {t : Control} {r : Readback} {p : Pending} (s : Steady a b k t r p) where
+module _ {a b : Port} {k : Block} {t : Control} {r : Readback} {p : ℕ} (s : Steady a b k t r p) where
   pub steady-a : {x : Port} → GoodPort x → Steady x b k t r p
   steady-a g =
       record { a = g; b = s .b; counter = s .counter; length = s .length; prescaler = s .prescaler; readback = s .readback; pending = s .pending }
@@ -52,7 +51,7 @@ module _ {a b : Port} {k : Block} {t : Control} {r : Readback} {p : Pending} (s 
   steady-readback x v =
       record { a = s .a; b = s .b; counter = s .counter; length = s .length; prescaler = s .prescaler; readback = v; pending = s .pending }
 
-  pub steady-pending : (x : Pending) → validPending x ≡ true → Steady a b k t r x
+  pub steady-pending : (x : ℕ) → validPending x ≡ true → Steady a b k t r x
   steady-pending x v =
       record { a = s .a; b = s .b; counter = s .counter; length = s .length; prescaler = s .prescaler; readback = s .readback; pending = v }
 

@@ -9,7 +9,7 @@ use lib.Dec.{leb, ltb, eqb}
 use borrow.Author.Tests.{ltb-true, leb-true, leb-false, eqb-true, eqb-false, lt-ltb, le-ltb, le-leb, eq-eqb, ne-eqb, not-true}
 use Rattle.rules.specs.Blocks.{blockCount, finished}
 use Rattle.rules.specs.Slots.{unmoved}
-use Rattle.rules.specs.Validity.{validPort, validReadback, restingSlot, validLength, runningSlot, validSlot, validProgress, validCore}
+use Rattle.rules.specs.Validity.{validPort, validReadback, restingSlot, validLength, runningSlot, validSlot, validProgress, validCore, validCoreIf}
 use Rattle.rules.specs.Facts.{ValidParts, ValidCycle, ValidReading, Resting, SlotLength, busTime, prescaled, Running, ValidSlot, resting, running}
 use Rattle.rules.specs.declared.Port.{Port}
 use Rattle.rules.specs.declared.Block.{Block}
@@ -21,7 +21,7 @@ use Rattle.rules.proofs.Choice.{pick-true, pick-false, not-of-false, ei
 -- ---- the core, part by part
 
 pub core-parts : (c : Core) → validCore c ≡ true → ValidParts c
-unfolding validCore
+unfolding validCoreIf
 core-parts c e =
     let h = all-true _ e in
     record {
@@ -35,7 +35,7 @@ core-parts c e =
     }
 
 pub parts-core : (c : Core) → ValidParts c → validCore c ≡ true
-unfolding validCore
+unfolding validCoreIf
 parts-core c v =
     true-all _ (v .a, (v .b, (le-leb _ _ (v .counter), (v .readback, (v .pending, (v .slot, (v .progress, tt)))))))
 

@@ -10,8 +10,7 @@ use Rattle.rules.specs.Slots.{noSlot, busHeld, unmoved}
 use Rattle.rules.specs.Pending.{validPending}
 use Rattle.rules.specs.Facts.{Kept, ValidSlot, resting, running}
 use Rattle.rules.specs.Commands.{enable, reset, continue, load, restartReading, askStatus, readingCommand, command}
-use Rattle.rules.specs.Registers.{wr3, register, parameter, carriedOut, effect, written}
-use Rattle.rules.specs.declared.Pending.{Pending}
+use Rattle.rules.specs.Registers.{wr3, register, parameter, effect, written, carriedOutAs, effectOver}
 use Rattle.rules.specs.declared.Slot.{Slot}
 use Rattle.rules.specs.declared.Core.{Core}
 use Rattle.rules.proofs.Choice.{clash, pick-cases, pick-both, below, _⨾_, table}
@@ -104,9 +103,9 @@ module _ (byte : ℕ) (c : Core) (f : Settled (c .enabled) (c .slot)) (s : Stead
 
   -- ---- parameters
 
-  parameter-kept : (code : ℕ) → byte < 256 → Kept (parameter code byte c)
+  parameter-kept : (which : ℕ) → byte < 256 → Kept (parameter which byte c)
   unfolding parameter
-  parameter-kept code h =
+  parameter-kept which h =
       table Kept
       (kept _ f (steady-a s (good-low _ byte h (s .a)))
       ⨾ kept _ f (steady-a s (good-high _ byte h (s .a)))
@@ -122,11 +121,11 @@ module _ (byte : ℕ) (c : Core) (f : Settled (c .enabled) (c .slot)) (s : Stead
 -- ---- an accepted write
 
 -- other parameters may be pending
-pending-kept : (c : Core) (p : Pending) → validPending p ≡ true → Kept c → Kept (withPending p c)
+pending-kept : (c : Core) (p : ℕ) → validPending p ≡ true → Kept c → Kept (withPending p c)
 pending-kept c p v k = kept-from _ (steady-pending (kept-steady c k) p v) (kept-slot c k) (kept-progress c k)
 
 effect-kept : (byte : ℕ) (c : Core) → byte < 256 → Settled (c .enabled) (c .slot) → SteadyCore c → Kept (effect byte c)
-unfolding effect carriedOut
+unfolding effectOver carriedOutAs
 effect-kept byte c h f s =
     pending-kept _ _ (after-valid byte _ (s .pending))
     (pick-both Kept _ _ _ (parameter-kept byte c f s _ h) (register-kept byte c f s _))

@@ -3,13 +3,14 @@
 use Prim.Native.Nat.{ℕ}
 use lib.Dec.{eqb}
 use Rattle.rules.specs.Choice.{pick}
+use Rattle.rules.specs.Steering.{Steering, bits}
 use Rattle.rules.specs.Validity.{total}
-use Rattle.rules.specs.Registers.{written}
-use Rattle.rules.specs.Readback.{readByte}
+use Rattle.rules.specs.Registers.{writtenOver}
+use Rattle.rules.specs.Readback.{Byte, readByte}
 use Rattle.rules.specs.Clock.{Clock, clockOf}
 use Rattle.rules.specs.Buffers.{Store, Buffers}
-use Rattle.rules.specs.World.{System, clockedBy}
-use Rattle.rules.specs.Refusals.{accessRefusal, grantRefusal}
+use Rattle.rules.specs.World.{SystemOf, System, system, clockedBy}
+use Rattle.rules.specs.Refusals.{accessRefusalOver, grantRefusalOver}
 use Rattle.rules.specs.declared.Clocks.{Clocks}
 use Rattle.rules.specs.declared.Core.{Core}
 
@@ -18,16 +19,16 @@ pub record Answered : Type 0 where
   pub number : ℕ
   pub byte : ℕ
 
--- the answer to a port write or a port read, and core and clock counts after it
-pub record Reply : Type 0 where
+-- the answer to a port write or a port read, and core, kept as D, and clock counts after it
+pub record ReplyOf (D : Type 0) : Type 0 where
   pub answered : Answered
-  pub core : Core
+  pub core : D
   pub clocks : Clocks
 
 -- the answer to any call over memory M, and the system after it
-pub record Answer (M : Type 0) : Type 0 where
+pub record AnswerOf (D M : Type 0) : Type 0 where
   pub answered : Answered
-  pub system : System M
+  pub system : SystemOf D M
 
 -- accepted with a byte, and refused with a number
 abbrev pub accepted : ℕ → Answered
@@ -38,42 +39,78 @@ refused number = record { number = number; byte = 0 }
 
 -- a port write or a port read: unless it is refused, it gives this byte and leaves the core so; a refused one leaves
 -- everything as it came
-unfoldable pub unlessRefused : ℕ → ℕ → Core → Core → Clocks → Reply
-unlessRefused number byte next c k =
+unfoldable pub unlessRefused : {D : Type 0} → ℕ → ℕ → D → D → Clocks → ReplyOf D
+unlessRefused number byte next d k =
     pick (eqb number 0)
     (record { answered = accepted byte; core = next; clocks = k })
-    (record { answered = refused number; core = c; clocks = k })
+    (record { answered = refused number; core = d; clocks = k })
 
-unfoldable pub writeReply : Core → Clocks → ℕ → ℕ → Reply
-writeReply c k port byte = unlessRefused (accessRefusal c (total k) port) 0 (written port byte c) c k
+-- a reply beside buffers that the call does not touch
+abbrev pub beside : {D M : Type 0} → Buffers M → ReplyOf D → AnswerOf D M
+beside b r = record { answered = r .answered; system = system (r .core) b (r .clocks) }
 
-unfoldable pub readReply : Core → Clocks → ℕ → Reply
-readReply c k port = unlessRefused (accessRefusal c (total k) port) (readByte c .byte) (readByte c .core) c k
+-- by what steers the pending parameters
+module _ {D : Type 0} (δ : Steering D) where
+  unfoldable pub writeReplyOver : D → Clocks → ℕ → ℕ → ReplyOf D
+  writeReplyOver d k port byte =
+      unlessRefused (accessRefusalOver δ d (total k) port) 0 (writtenOver δ port byte d) d k
+
+  unfoldable pub readReplyOver : D → Clocks → ℕ → ReplyOf D
+  readReplyOver d k port =
+      let r : Byte = readByte (δ .core d) in
+      unlessRefused (accessRefusalOver δ d (total k) port) (r .byte) (δ .with (r .core) d) d k
+
+module _ {D M : Type 0} (δ : Steering D) where
+  abbrev pub writeOver : SystemOf D M → ℕ → ℕ → AnswerOf D M
+  writeOver s port byte = beside (s .world .buffers) (writeReplyOver δ (s .world .core) (s .clocks) port byte)
+
+  abbrev pub readOver : SystemOf D M → ℕ → AnswerOf D M
+  readOver s port = beside (s .world .buffers) (readReplyOver δ (s .world .core) (s .clocks) port)
+
+  -- why a grant of n clocks is refused, 0 for accepted
+  abbrev pub grantNumberOver : Store M → SystemOf D M → ℕ → ℕ
+  grantNumberOver σ s n = grantRefusalOver δ σ (s .world .core) (total (s .clocks)) (s .world .buffers) n
+
+  -- n clocks by a clock κ of the core, which leaves the pending parameters alone
+  abbrev pub clockedOver : (Core → Clock) → Store M → ℕ → SystemOf D M → SystemOf D M
+  clockedOver κ σ n s =
+      let t : System M = clockedBy κ σ n (system (δ .core (s .world .core)) (s .world .buffers) (s .clocks)) in
+      system (δ .with (t .world .core) (s .world .core)) (t .world .buffers) (t .clocks)
+
+  -- a grant by a clock κ of the core: all of its clocks, one after the other
+  unfoldable pub grantOver : (Core → Clock) → Store M → SystemOf D M → ℕ → AnswerOf D M
+  grantOver κ σ s n =
+      pick (eqb (grantNumberOver σ s n) 0)
+      (record { answered = accepted 0; system = clockedOver κ σ n s })
+      (record { answered = refused (grantNumberOver σ s n); system = s })
+
+-- with the number in the core
+abbrev pub Reply : Type 0
+Reply = ReplyOf Core
+
+abbrev pub Answer : Type 0 → Type 0
+Answer M = AnswerOf Core M
+
+abbrev pub writeReply : Core → Clocks → ℕ → ℕ → Reply
+writeReply c k port byte = writeReplyOver bits c k port byte
+
+abbrev pub readReply : Core → Clocks → ℕ → Reply
+readReply c k port = readReplyOver bits c k port
 
 module _ {M : Type 0} where
-  -- a reply beside buffers that the call does not touch
-  abbrev pub beside : Buffers M → Reply → Answer M
-  beside b r =
-      record { answered = r .answered; system = record { world = record { core = r .core; buffers = b }; clocks = r .clocks } }
-
   abbrev pub write : System M → ℕ → ℕ → Answer M
-  write s port byte = beside (s .world .buffers) (writeReply (s .world .core) (s .clocks) port byte)
+  write s port byte = writeOver bits s port byte
 
   abbrev pub read : System M → ℕ → Answer M
-  read s port = beside (s .world .buffers) (readReply (s .world .core) (s .clocks) port)
+  read s port = readOver bits s port
 
 module _ {M : Type 0} (σ : Store M) where
-  -- why a grant of n clocks is refused, 0 for accepted
   abbrev pub grantNumber : System M → ℕ → ℕ
-  grantNumber s n = grantRefusal σ (s .world .core) (total (s .clocks)) (s .world .buffers) n
+  grantNumber s n = grantNumberOver bits σ s n
 
--- a grant by a clock κ of the core: all of its clocks, one after the other
-unfoldable pub grantBy : {M : Type 0} → (Core → Clock) → Store M → System M → ℕ → Answer M
-grantBy κ σ s n =
-    pick (eqb (grantNumber σ s n) 0)
-    (record { answered = accepted 0; system = clockedBy κ σ n s })
-    (record { answered = refused (grantNumber σ s n); system = s })
+-- by a clock κ of the core, and by the rules' clock
+abbrev pub grantBy : {M : Type 0} → (Core → Clock) → Store M → System M → ℕ → Answer M
+grantBy κ σ s n = grantOver bits κ σ s n
 
--- by the rules' clock
 abbrev pub grant : {M : Type 0} → Store M → System M → ℕ → Answer M
 grant σ s n = grantBy clockOf σ s n

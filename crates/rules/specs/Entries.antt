@@ -4,11 +4,12 @@ use Prim.Native.Nat.{ℕ}
 use mathlib.Core.Path.{_≡_}
 use mathlib.Core.List.{List, [], _∷_}
 use lib.ListN.{length, set}
+use Rattle.rules.specs.Steering.{Steering, bits}
 use Rattle.rules.specs.PowerOn.{powerOn, noClocks}
 use Rattle.rules.specs.Clock.{Clock, clockOf}
 use Rattle.rules.specs.Buffers.{Store, Buffers}
-use Rattle.rules.specs.World.{System}
-use Rattle.rules.specs.Calls.{Answered, Answer, accepted, write, read, grantBy}
+use Rattle.rules.specs.World.{SystemOf, System, system}
+use Rattle.rules.specs.Calls.{Answered, AnswerOf, Answer, accepted, writeOver, readOver, grantOver}
 use Rattle.rules.specs.declared.Core.{Core}
 
 -- the changes of a memory from outside: each kind of change, and what it makes of the memory
@@ -52,45 +53,57 @@ bytesWritten (otherGrant n b wrong ∷ es) = bytesWritten es
 bytesWritten (outsideChange x ∷ es) = bytesWritten es
 
 -- the answers to a list's entries, in order, and the system after them
-pub record Run (M : Type 0) : Type 0 where
+pub record RunOf (D M : Type 0) : Type 0 where
   pub answers : List Answered
-  pub system : System M
+  pub system : SystemOf D M
+
+abbrev pub Run : Type 0 → Type 0
+Run M = RunOf Core M
 
 -- the same device beside other buffers
-abbrev pub besideBuffers : {M : Type 0} → Buffers M → System M → System M
-besideBuffers b s = record { world = record { core = s .world .core; buffers = b }; clocks = s .clocks }
+abbrev pub besideBuffers : {D M : Type 0} → Buffers M → SystemOf D M → SystemOf D M
+besideBuffers b s = system (s .world .core) b (s .clocks)
 
 -- the memory changed from outside; the latches stay
-abbrev pub changedOutside : {M C : Type 0} → Outside M C → C → System M → System M
+abbrev pub changedOutside : {D M C : Type 0} → Outside M C → C → SystemOf D M → SystemOf D M
 changedOutside ω x s =
     besideBuffers (record { memory = ω .change x (s .world .buffers .memory); latches = s .world .buffers .latches }) s
 
--- a grant of other buffers: the list keeps its own
-abbrev pub grantOtherBy : {M : Type 0} → (Core → Clock) → Store M → System M → ℕ → Buffers M → Answer M
-grantOtherBy κ σ s n b =
-    let a : Answer _ = grantBy κ σ (besideBuffers b s) n in
-    record { answered = a .answered; system = besideBuffers (s .world .buffers) (a .system) }
+-- by what steers the pending parameters, and a clock κ of the core
+module _ {D M : Type 0} (δ : Steering D) (κ : Core → Clock) (σ : Store M) where
+  -- a grant of other buffers: the list keeps its own
+  abbrev pub grantOtherOver : SystemOf D M → ℕ → Buffers M → AnswerOf D M
+  grantOtherOver s n b =
+      let a : AnswerOf D M = grantOver δ κ σ (besideBuffers b s) n in
+      record { answered = a .answered; system = besideBuffers (s .world .buffers) (a .system) }
 
--- by a clock κ of the core
-module _ {M C : Type 0} (κ : Core → Clock) (σ : Store M) (ω : Outside M C) where
+module _ {D M C : Type 0} (δ : Steering D) (κ : Core → Clock) (σ : Store M) (ω : Outside M C) where
   -- one entry, by the calls' own definitions; an outside change is answered with 0
-  abbrev pub enterBy : Entry σ C → System M → Answer M
-  enterBy (portWrite port byte) s = write s port byte
-  enterBy (portRead port) s = read s port
-  enterBy (clockGrant n) s = grantBy κ σ s n
-  enterBy (otherGrant n b wrong) s = grantOtherBy κ σ s n b
-  enterBy (outsideChange x) s = record { answered = accepted 0; system = changedOutside ω x s }
+  abbrev pub enterOver : Entry σ C → SystemOf D M → AnswerOf D M
+  enterOver (portWrite port byte) s = writeOver δ s port byte
+  enterOver (portRead port) s = readOver δ s port
+  enterOver (clockGrant n) s = grantOver δ κ σ s n
+  enterOver (otherGrant n b wrong) s = grantOtherOver δ κ σ s n b
+  enterOver (outsideChange x) s = record { answered = accepted 0; system = changedOutside ω x s }
 
   -- a list of entries
-  unfoldable pub runBy : List (Entry σ C) → System M → Run M
-  runBy [] s = record { answers = []; system = s }
-  runBy (e ∷ es) s =
+  unfoldable pub runOver : List (Entry σ C) → SystemOf D M → RunOf D M
+  runOver [] s = record { answers = []; system = s }
+  runOver (e ∷ es) s =
       record {
-        answers = enterBy e s .answered ∷ runBy es (enterBy e s .system) .answers;
-        system = runBy es (enterBy e s .system) .system;
+        answers = enterOver e s .answered ∷ runOver es (enterOver e s .system) .answers;
+        system = runOver es (enterOver e s .system) .system;
       }
 
--- by the rules' clock
+-- with the number in the core, by a clock κ
+module _ {M C : Type 0} (κ : Core → Clock) (σ : Store M) (ω : Outside M C) where
+  abbrev pub enterBy : Entry σ C → System M → Answer M
+  enterBy e s = enterOver bits κ σ ω e s
+
+  abbrev pub runBy : List (Entry σ C) → System M → Run M
+  runBy es s = runOver bits κ σ ω es s
+
+-- and by the rules' clock
 module _ {M C : Type 0} (σ : Store M) (ω : Outside M C) where
   abbrev pub enter : Entry σ C → System M → Answer M
   enter e s = enterBy clockOf σ ω e s
@@ -100,5 +113,4 @@ module _ {M C : Type 0} (σ : Store M) (ω : Outside M C) where
 
 -- power-on with a memory and latches
 abbrev pub systemAtPowerOn : {M : Type 0} → M → List ℕ → System M
-systemAtPowerOn m l =
-    record { world = record { core = powerOn; buffers = record { memory = m; latches = l } }; clocks = noClocks }
+systemAtPowerOn m l = system powerOn (record { memory = m; latches = l }) noClocks

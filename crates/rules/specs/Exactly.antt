@@ -1,6 +1,6 @@
 -- Where document 01 says when something is so, that it is so then and at no other time.
 -- Assumes nothing.
-use Prim.Native.Nat.{ℕ, zero, suc, _+_, _*_, _%_, _≤_, _<_}
+use Prim.Native.Nat.{ℕ, zero, suc, _+_, _*_, _%_, _^_, _≤_, _<_}
 use mathlib.Core.Path.{_≡_}
 use mathlib.Core.Bool.{Bool, true, false, not}
 use mathlib.Core.List.{List, [], _∷_}
@@ -11,16 +11,16 @@ use Rattle.rules.specs.Bytes.{bit}
 use Rattle.rules.specs.Blocks.{blockCount, finished}
 use Rattle.rules.specs.Slots.{busHeld}
 use Rattle.rules.specs.Selection.{isWR0, isWR1, isWR2, isWR4, selections}
-use Rattle.rules.specs.Pending.{aLow, aHigh, lengthLow, lengthHigh, aTiming, bTiming, prescaler, bLow, bHigh, readMask, codes, sameCodes, nothing, isPending, rest, ask, wr0Asks, wr1Asks, wr2Asks, wr4Asks, maskAsked, pendingAfter, validPending}
+use Rattle.rules.specs.Pending.{aLow, aHigh, lengthLow, lengthHigh, aTiming, bTiming, prescaler, bLow, bHigh, readMask, nothing, next, isPending, rest, wr0Asks, wr1Asks, wr2Asks, wr4Asks, pendingAfter, validPending}
 use Rattle.rules.specs.Validity.{valid, total, most64}
 use Rattle.rules.specs.Registers.{carriedOut, inMode, written}
-use Rattle.rules.specs.Readback.{registerByte, after, chosen}
-use Rattle.rules.specs.Buffers.{flat, Buffers}
+use Rattle.rules.specs.Readback.{registerByte, after, chosen, readByte}
+use Rattle.rules.specs.Clock.{clockOf}
+use Rattle.rules.specs.Buffers.{Store, flat, Buffers}
 use Rattle.rules.specs.World.{System}
 use Rattle.rules.specs.Refusals.{wrongPort, accessRefusal, grantRefusal}
-use Rattle.rules.specs.Calls.{writeReply, readReply, grantNumber, grant}
+use Rattle.rules.specs.Calls.{refused, writeReply, readReply, grantNumber, grant}
 use Rattle.rules.specs.declared.Block.{Block}
-use Rattle.rules.specs.declared.Pending.{Pending}
 use Rattle.rules.specs.declared.Clocks.{Clocks}
 use Rattle.rules.specs.declared.Core.{Core}
 
@@ -56,70 +56,95 @@ pub record RefusalsExact : Type 0 where
   pub access : (c : Core) (sum port : ℕ) → AccessExact c sum port
   pub grants : (c : Core) (sum : ℕ) (b : Buffers (List ℕ)) (n : ℕ) → GrantExact c sum b n
 
--- ---- pending parameters: valid exactly for the tails of what a register's byte asks for, the prescaler alone and the mask
--- alone
+-- ---- pending parameters: valid exactly for what a register's byte asks for, the prescaler alone, the mask alone, and what
+-- is left of these
 
-pub data Awaited : Pending → Type 0 where
+pub data Awaited : ℕ → Type 0 where
   byWR0 : (byte : ℕ) → byte < 256 → isWR0 byte ≡ true → Awaited (wr0Asks byte)
   byWR1 : (byte : ℕ) → byte < 256 → isWR1 byte ≡ true → Awaited (wr1Asks byte)
   byWR2 : (byte : ℕ) → byte < 256 → isWR2 byte ≡ true → Awaited (wr2Asks byte)
   byWR4 : (byte : ℕ) → byte < 256 → isWR4 byte ≡ true → Awaited (wr4Asks byte)
-  byTiming : Awaited (ask true prescaler nothing)
-  byMaskCommand : Awaited maskAsked
-  tail : (p : Pending) → Awaited p → Awaited (rest p)
+  byTiming : Awaited prescaler
+  byMaskCommand : Awaited readMask
+  tail : (p : ℕ) → Awaited p → Awaited (rest p)
 
 -- what bytes lead to, one after the other, from nothing on
-pub data LedTo : Pending → Type 0 where
+pub data LedTo : ℕ → Type 0 where
   fromNothing : LedTo nothing
-  byByte : (byte : ℕ) (p : Pending) → byte < 256 → LedTo p → LedTo (pendingAfter byte p)
+  byByte : (byte p : ℕ) → byte < 256 → LedTo p → LedTo (pendingAfter byte p)
 
--- all sequences
-abbrev pub sequences : List Pending
-sequences =
+-- all numbers that can be pending
+abbrev pub pendingNumbers : List ℕ
+pendingNumbers =
     nothing
-    ∷ codes aLow 0 0 0
-    ∷ codes aHigh 0 0 0
-    ∷ codes lengthLow 0 0 0
-    ∷ codes lengthHigh 0 0 0
-    ∷ codes aLow aHigh 0 0
-    ∷ codes aLow lengthLow 0 0
-    ∷ codes aLow lengthHigh 0 0
-    ∷ codes aHigh lengthLow 0 0
-    ∷ codes aHigh lengthHigh 0 0
-    ∷ codes lengthLow lengthHigh 0 0
-    ∷ codes aLow aHigh lengthLow 0
-    ∷ codes aLow aHigh lengthHigh 0
-    ∷ codes aLow lengthLow lengthHigh 0
-    ∷ codes aHigh lengthLow lengthHigh 0
-    ∷ codes aLow aHigh lengthLow lengthHigh
-    ∷ codes aTiming 0 0 0
-    ∷ codes bTiming 0 0 0
-    ∷ codes prescaler 0 0 0
-    ∷ codes bLow 0 0 0
-    ∷ codes bHigh 0 0 0
-    ∷ codes bLow bHigh 0 0
-    ∷ codes readMask 0 0 0
+    ∷ aLow
+    ∷ aHigh
+    ∷ (aLow + aHigh)
+    ∷ lengthLow
+    ∷ (aLow + lengthLow)
+    ∷ (aHigh + lengthLow)
+    ∷ (aLow + aHigh + lengthLow)
+    ∷ lengthHigh
+    ∷ (aLow + lengthHigh)
+    ∷ (aHigh + lengthHigh)
+    ∷ (aLow + aHigh + lengthHigh)
+    ∷ (lengthLow + lengthHigh)
+    ∷ (aLow + lengthLow + lengthHigh)
+    ∷ (aHigh + lengthLow + lengthHigh)
+    ∷ (aLow + aHigh + lengthLow + lengthHigh)
+    ∷ aTiming
+    ∷ bTiming
+    ∷ prescaler
+    ∷ bLow
+    ∷ bHigh
+    ∷ (bLow + bHigh)
+    ∷ readMask
     ∷ []
 
-unfoldable pub among : Pending → List Pending → Bool
+unfoldable pub among : ℕ → List ℕ → Bool
 among p [] = false
-among p (q ∷ qs) = any (sameCodes p q ∷ among p qs ∷ [])
+among p (q ∷ qs) = any (eqb p q ∷ among p qs ∷ [])
 
--- no sequence stands twice
-unfoldable pub distinct : List Pending → Bool
+-- no number stands twice
+unfoldable pub distinct : List ℕ → Bool
 distinct [] = true
 distinct (p ∷ ps) = every (not (among p ps) ∷ distinct ps ∷ [])
 
-pub record PendingExact : Type 0 where
-  pub valid : (p : Pending) → Exactly (validPending p ≡ true) (Awaited p)
+-- the next parameter is this bit of the number, which is set, and none below it is
+pub record LowestBit (p : ℕ) : Type 0 where
+  pub place : ℕ
+  pub few : place < 10
+  pub value : next p ≡ 2 ^ place
+  pub set : bit place p ≡ true
+  pub first : (i : ℕ) → i < place → bit i p ≡ false
+
+-- a core with a number that is none of them
+abbrev pub Unlisted : Core → Type 0
+Unlisted c = among (c .pending) pendingNumbers ≡ false
+
+pub record PendingExact : Type 1 where
+  -- bits 0 to 9 in the order of document 01's table
+  pub order :
+      (aLow ∷ aHigh ∷ lengthLow ∷ lengthHigh ∷ aTiming ∷ bTiming ∷ prescaler ∷ bLow ∷ bHigh ∷ readMask ∷ [])
+      ≡ (1 ∷ 2 ∷ 4 ∷ 8 ∷ 16 ∷ 32 ∷ 64 ∷ 128 ∷ 256 ∷ 512 ∷ [])
+  pub valid : (p : ℕ) → Exactly (validPending p ≡ true) (Awaited p)
   -- bytes lead to each of them and to no other
-  pub led : (p : Pending) → Exactly (validPending p ≡ true) (LedTo p)
-  -- what a byte does to the rest of the core leaves them alone
+  pub led : (p : ℕ) → Exactly (validPending p ≡ true) (LedTo p)
+  -- the next one is the lowest of the ten bits that is set; with none pending there is no next one
+  pub lowest : (p : ℕ) → validPending p ≡ true → (p ≡ nothing → ⊥) → LowestBit p
+  pub none : next nothing ≡ nothing
+  -- what a byte does to the rest of the core leaves them alone, and so do a read and a clock
   pub alone : (byte : ℕ) (c : Core) → carriedOut byte c .pending ≡ c .pending
+  pub aloneInRead : (c : Core) → readByte c .core .pending ≡ c .pending
+  pub aloneInClock : (c : Core) → clockOf c .next .pending ≡ c .pending
   -- they are these 23 and no other
-  pub listed : (p : Pending) → Exactly (validPending p ≡ true) (among p sequences ≡ true)
-  pub count : length sequences ≡ 23
-  pub once : distinct sequences ≡ true
+  pub listed : (p : ℕ) → Exactly (validPending p ≡ true) (among p pendingNumbers ≡ true)
+  pub count : length pendingNumbers ≡ 23
+  pub once : distinct pendingNumbers ≡ true
+  -- a device with any other number is refused with 1 by every call
+  pub write : (c : Core) (k : Clocks) (port byte : ℕ) → Unlisted c → writeReply c k port byte ≡ record { answered = refused 1; core = c; clocks = k }
+  pub read : (c : Core) (k : Clocks) (port : ℕ) → Unlisted c → readReply c k port ≡ record { answered = refused 1; core = c; clocks = k }
+  pub granted : {M : Type 0} (σ : Store M) (s : System M) (n : ℕ) → Unlisted (s .world .core) → grant σ s n ≡ record { answered = refused 1; system = s }
 
 -- ---- blocks
 

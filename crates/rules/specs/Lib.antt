@@ -7,6 +7,7 @@ pub mod Blocks
 pub mod Slots
 pub mod Selection
 pub mod Pending
+pub mod Steering
 pub mod PowerOn
 pub mod Validity
 pub mod Facts
@@ -30,4 +31,6 @@ pub mod Splitting
 pub mod Accounts
 pub mod Reached
 pub mod Recheck
+pub mod Sequences
+pub mod Numbered
 pub mod Opened

@@ -5,17 +5,17 @@ use Rattle.rules.specs.Ports.{cycleOf, stepped}
 use Rattle.rules.specs.Blocks.{blockCount, finished}
 use Rattle.rules.specs.Slots.{waiting, busHeld, unmoved, slotLength, slotOf}
 use Rattle.rules.specs.Selection.{selects}
-use Rattle.rules.specs.Pending.{ask, asked, usedUp, pendingAfter, follows, validPending}
-use Rattle.rules.specs.Validity.{validPort, validReadback, restingSlot, validLength, runningSlot, validSlot, validProgress, validCore, valid}
+use Rattle.rules.specs.Pending.{next, ask, asked, usedUp, pendingAfterAs, validPending}
+use Rattle.rules.specs.Validity.{validPort, validReadback, restingSlot, validLength, runningSlot, validSlot, validProgress, validCoreIf, validIf}
 use Rattle.rules.specs.Commands.{enable, readingCommand, command}
-use Rattle.rules.specs.Registers.{wr3, register, parameter, carriedOut, effect}
+use Rattle.rules.specs.Registers.{wr3, register, parameter, carriedOutAs, effectOver}
 use Rattle.rules.specs.Readback.{statusByte, registerByte, after, seek, readByte}
 use Rattle.rules.specs.Clock.{movedAt, kindAt, slotEnd, clockEnd, slotClock, clockOf}
 use Rattle.rules.specs.Buffers.{placed, source, destination, byteAt, put}
 use Rattle.rules.specs.World.{buffersAfter, clockedBy}
-use Rattle.rules.specs.Refusals.{accessRefusal, lentRefusal, grantRefusal}
-use Rattle.rules.specs.Calls.{unlessRefused, writeReply, readReply, grantBy}
-use Rattle.rules.specs.Entries.{poked, runBy}
+use Rattle.rules.specs.Refusals.{accessRefusalIf, lentRefusalIf, grantRefusalIf}
+use Rattle.rules.specs.Calls.{unlessRefused, writeReplyOver, readReplyOver, grantOver}
+use Rattle.rules.specs.Entries.{poked, runOver}
 use Rattle.rules.specs.History.{zeroing, writePassed, notedUnless, clocksPassedBy, historyBy}
 
 -- choices and the parts of the core
@@ -25,12 +25,12 @@ partsOpened = tt
 
 -- what bytes do, and what they read
 unfoldable bytesOpened : Unit {0}
-unfolding selects ask asked usedUp pendingAfter follows validPending enable readingCommand command wr3 register parameter carriedOut effect statusByte registerByte after seek readByte
+unfolding selects next ask asked usedUp pendingAfterAs validPending enable readingCommand command wr3 register parameter carriedOutAs effectOver statusByte registerByte after seek readByte
 bytesOpened = tt
 
 -- which devices are valid
 unfoldable validOpened : Unit {0}
-unfolding validPort validReadback restingSlot validLength runningSlot validSlot validProgress validCore valid
+unfolding validPort validReadback restingSlot validLength runningSlot validSlot validProgress validCoreIf validIf
 validOpened = tt
 
 -- clocks, and the buffers that they work on
@@ -40,7 +40,7 @@ clocksOpened = tt
 
 -- calls, their lists and histories
 unfoldable callsOpened : Unit {0}
-unfolding accessRefusal lentRefusal grantRefusal unlessRefused writeReply readReply grantBy poked runBy zeroing writePassed notedUnless clocksPassedBy historyBy
+unfolding accessRefusalIf lentRefusalIf grantRefusalIf unlessRefused writeReplyOver readReplyOver grantOver poked runOver zeroing writePassed notedUnless clocksPassedBy historyBy
 callsOpened = tt
 
 unfoldable pub opened : Unit {0}

@@ -7,7 +7,6 @@ use Rattle.rules.specs.declared.Block.{Block}
 use Rattle.rules.specs.declared.Control.{Control}
 use Rattle.rules.specs.declared.Status.{Status}
 use Rattle.rules.specs.declared.Readback.{Readback}
-use Rattle.rules.specs.declared.Pending.{Pending}
 use Rattle.rules.specs.declared.Slot.{Slot}
 use Rattle.rules.specs.declared.Core.{Core}
 
@@ -74,7 +73,7 @@ withStatus x c = record { a = c .a; b = c .b; block = c .block; control = c .con
 abbrev pub withReadback : Readback → Core → Core
 withReadback x c = record { a = c .a; b = c .b; block = c .block; control = c .control; status = c .status; readback = x; pending = c .pending; enabled = c .enabled; slot = c .slot }
 
-abbrev pub withPending : Pending → Core → Core
+abbrev pub withPending : ℕ → Core → Core
 withPending x c = record { a = c .a; b = c .b; block = c .block; control = c .control; status = c .status; readback = c .readback; pending = x; enabled = c .enabled; slot = c .slot }
 
 abbrev pub withEnabled : Bool → Core → Core

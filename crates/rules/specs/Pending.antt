@@ -1,16 +1,15 @@
--- The pending parameters (document 01: awaited): a sequence of codes, the next one first, 0 behind the last.
--- All that steers the sequence stands here: what is next, and what is pending after a byte.
+-- The pending parameters (document 01: awaited): one number, a bit for each, the lowest set bit the next one.
+-- All that steers the number stands here: what is next, what is pending after a byte, and which numbers are valid.
 -- Assumes nothing.
-use Prim.Native.Nat.{ℕ}
+use Prim.Native.Nat.{ℕ, _+_, _-_, _%_}
 use mathlib.Core.Bool.{Bool, not}
-use mathlib.Core.List.{[], _∷_}
-use lib.Dec.{leb, ltb, eqb}
-use Rattle.rules.specs.Choice.{pick, _⇒_, firstOf, every, any}
+use mathlib.Core.List.{List, [], _∷_}
+use lib.Dec.{ltb, eqb}
+use Rattle.rules.specs.Choice.{pick, Row, _⇒_, firstOf, every, any}
 use Rattle.rules.specs.Bytes.{bit}
 use Rattle.rules.specs.Selection.{selects}
-use Rattle.rules.specs.declared.Pending.{Pending}
 
--- the codes, in the order of document 01's table
+-- the parameters, bits 0 to 9 in the order of document 01's table
 abbrev pub aLow : ℕ
 aLow = 1
 
@@ -18,106 +17,113 @@ abbrev pub aHigh : ℕ
 aHigh = 2
 
 abbrev pub lengthLow : ℕ
-lengthLow = 3
+lengthLow = 4
 
 abbrev pub lengthHigh : ℕ
-lengthHigh = 4
+lengthHigh = 8
 
 abbrev pub aTiming : ℕ
-aTiming = 5
+aTiming = 16
 
 abbrev pub bTiming : ℕ
-bTiming = 6
+bTiming = 32
 
 abbrev pub prescaler : ℕ
-prescaler = 7
+prescaler = 64
 
 abbrev pub bLow : ℕ
-bLow = 8
+bLow = 128
 
 abbrev pub bHigh : ℕ
-bHigh = 9
+bHigh = 256
 
 abbrev pub readMask : ℕ
-readMask = 10
-
--- the sequence of these codes
-abbrev pub codes : ℕ → ℕ → ℕ → ℕ → Pending
-codes x y z w = record { first = x; second = y; third = z; fourth = w }
-
--- two sequences of the same codes
-abbrev pub sameCodes : Pending → Pending → Bool
-sameCodes p q =
-    every (eqb (p .first) (q .first) ∷ eqb (p .second) (q .second) ∷ eqb (p .third) (q .third) ∷ eqb (p .fourth) (q .fourth) ∷ [])
+readMask = 512
 
 -- nothing is pending
-abbrev pub nothing : Pending
-nothing = codes 0 0 0 0
+abbrev pub nothing : ℕ
+nothing = 0
 
--- the code of the next one, 0 for none
-abbrev pub next : Pending → ℕ
-next p = p .first
+-- the bits from the lowest up, and the parameter of each
+abbrev pub lowestFirst : ℕ → List (Row ℕ)
+lowestFirst p =
+    bit 0 p ⇒ aLow
+    ∷ bit 1 p ⇒ aHigh
+    ∷ bit 2 p ⇒ lengthLow
+    ∷ bit 3 p ⇒ lengthHigh
+    ∷ bit 4 p ⇒ aTiming
+    ∷ bit 5 p ⇒ bTiming
+    ∷ bit 6 p ⇒ prescaler
+    ∷ bit 7 p ⇒ bLow
+    ∷ bit 8 p ⇒ bHigh
+    ∷ bit 9 p ⇒ readMask
+    ∷ []
 
-abbrev pub isPending : Pending → Bool
-isPending p = not (eqb (next p) 0)
+-- the next one, the lowest bit that is set; 0 for none
+unfoldable pub next : ℕ → ℕ
+next p = firstOf (lowestFirst p) nothing
+
+-- a parameter, and not none
+abbrev pub isOne : ℕ → Bool
+isOne parameter = not (eqb parameter nothing)
+
+abbrev pub isPending : ℕ → Bool
+isPending p = isOne (next p)
 
 -- those after the next one
-abbrev pub rest : Pending → Pending
-rest p = codes (p .second) (p .third) (p .fourth) 0
+abbrev pub rest : ℕ → ℕ
+rest p = p - next p
 
--- with one more in front where the test holds
-unfoldable pub ask : Bool → ℕ → Pending → Pending
-ask t code p = pick t (codes code (p .first) (p .second) (p .third)) p
+-- with one more where the test holds
+unfoldable pub ask : Bool → ℕ → ℕ → ℕ
+ask t parameter p = pick t (parameter + p) p
 
--- the parameters that each register's byte asks for, in their order
-abbrev pub wr0Asks : ℕ → Pending
+-- the parameters that each register's byte asks for
+abbrev pub wr0Asks : ℕ → ℕ
 wr0Asks byte = ask (bit 3 byte) aLow (ask (bit 4 byte) aHigh (ask (bit 5 byte) lengthLow (ask (bit 6 byte) lengthHigh nothing)))
 
-abbrev pub wr1Asks : ℕ → Pending
+abbrev pub wr1Asks : ℕ → ℕ
 wr1Asks byte = ask (bit 6 byte) aTiming nothing
 
-abbrev pub wr2Asks : ℕ → Pending
+abbrev pub wr2Asks : ℕ → ℕ
 wr2Asks byte = ask (bit 6 byte) bTiming nothing
 
-abbrev pub wr4Asks : ℕ → Pending
+abbrev pub wr4Asks : ℕ → ℕ
 wr4Asks byte = ask (bit 2 byte) bLow (ask (bit 3 byte) bHigh nothing)
 
--- the read mask, after BB
-abbrev pub maskAsked : Pending
-maskAsked = codes readMask 0 0 0
-
--- a byte that selects a register: those that it asks for; WR3, WR5, the other commands and the bytes that select none leave
--- what is pending as it is
-unfoldable pub asked : ℕ → Pending → Pending
+-- a byte that selects a register: those that it asks for, after BB the read mask; WR3, WR5, the other commands and the bytes
+-- that select none leave what is pending as it is
+unfoldable pub asked : ℕ → ℕ → ℕ
 asked byte p =
     firstOf
     (eqb (selects byte) 0 ⇒ wr0Asks byte
     ∷ eqb (selects byte) 1 ⇒ wr1Asks byte
     ∷ eqb (selects byte) 2 ⇒ wr2Asks byte
     ∷ eqb (selects byte) 4 ⇒ wr4Asks byte
-    ∷ eqb byte 0xBB ⇒ maskAsked
+    ∷ eqb byte 0xBB ⇒ readMask
     ∷ [])
     p
 
--- a parameter: the next one is used up, and B timing with bit 5 set asks for the prescaler
-unfoldable pub usedUp : ℕ → Pending → Pending
-usedUp byte p = ask (every (eqb (next p) bTiming ∷ bit 5 byte ∷ [])) prescaler (rest p)
+-- a byte that is this parameter uses it up, and B timing with bit 5 set asks for the prescaler; in a valid number B timing is
+-- alone
+unfoldable pub usedUp : ℕ → ℕ → ℕ → ℕ
+usedUp parameter byte p = pick (every (eqb parameter bTiming ∷ bit 5 byte ∷ [])) prescaler (p - parameter)
 
--- what is pending after a byte
-unfoldable pub pendingAfter : ℕ → Pending → Pending
-pendingAfter byte p = pick (isPending p) (usedUp byte p) (asked byte p)
+-- what is pending after a byte, by what is next
+unfoldable pub pendingAfterAs : ℕ → ℕ → ℕ → ℕ
+pendingAfterAs next byte p = pick (isOne next) (usedUp next byte p) (asked byte p)
 
--- y may stand right behind x: nothing more, or a later parameter of the same register, WR0 or WR4
-unfoldable pub follows : ℕ → ℕ → Bool
-follows x y =
-    any
-    (eqb y 0
-    ∷ every (leb aLow x ∷ ltb x y ∷ leb y lengthHigh ∷ [])
-    ∷ every (leb bLow x ∷ ltb x y ∷ leb y bHigh ∷ [])
-    ∷ [])
+abbrev pub pendingAfter : ℕ → ℕ → ℕ
+pendingAfter byte p = pendingAfterAs (next p) byte p
 
--- a tail of a sequence in document 01's table: every selection of a register's parameters in their order
-unfoldable pub validPending : Pending → Bool
+-- any of WR0's four, or A timing alone, B timing alone, the prescaler alone, any of WR4's two, or the read mask alone
+unfoldable pub validPending : ℕ → Bool
 validPending p =
-    every
-    (leb (p .first) readMask ∷ follows (p .first) (p .second) ∷ follows (p .second) (p .third) ∷ follows (p .third) (p .fourth) ∷ [])
+    any
+    (ltb p aTiming
+    ∷ eqb p aTiming
+    ∷ eqb p bTiming
+    ∷ eqb p prescaler
+    ∷ every (eqb (p % bLow) 0 ∷ ltb p readMask ∷ [])
+    ∷ eqb p readMask
+    ∷ [])

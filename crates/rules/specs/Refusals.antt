@@ -7,7 +7,8 @@ use lib.Dec.{ltb, eqb}
 use lib.ListN.{length}
 use Rattle.rules.specs.Choice.{every, test, firstHit}
 use Rattle.rules.specs.Slots.{busHeld}
-use Rattle.rules.specs.Validity.{valid, most64}
+use Rattle.rules.specs.Steering.{Steering, bits}
+use Rattle.rules.specs.Validity.{validIf, most64}
 use Rattle.rules.specs.Buffers.{Store, Buffers}
 use Rattle.rules.specs.declared.Core.{Core}
 
@@ -15,20 +16,39 @@ use Rattle.rules.specs.declared.Core.{Core}
 abbrev pub wrongPort : ℕ → Bool
 wrongPort port = every (not (eqb (port % 256) 0x6B) ∷ not (eqb (port % 256) 0x0B) ∷ [])
 
--- a port write or a port read; `sum` is the clocks counted so far
-unfoldable pub accessRefusal : Core → ℕ → ℕ → ℕ
-accessRefusal c sum port = firstHit (test 1 (not (valid c sum)) ∷ test 2 (wrongPort port) ∷ test 3 (busHeld c) ∷ [])
+-- a port write or a port read, by whether what is pending is valid; `sum` is the clocks counted so far
+unfoldable pub accessRefusalIf : Bool → Core → ℕ → ℕ → ℕ
+accessRefusalIf pending c sum port =
+    firstHit (test 1 (not (validIf pending c sum)) ∷ test 2 (wrongPort port) ∷ test 3 (busHeld c) ∷ [])
 
 -- a grant of n clocks, by the number with which the memory is refused, if it is, and the length of the latches
-unfoldable pub lentRefusal : Core → ℕ → ℕ → ℕ → ℕ → ℕ
-lentRefusal c sum memory latches n =
+unfoldable pub lentRefusalIf : Bool → Core → ℕ → ℕ → ℕ → ℕ → ℕ
+lentRefusalIf pending c sum memory latches n =
     firstHit
-    (test 1 (not (valid c sum))
+    (test 1 (not (validIf pending c sum))
     ∷ test memory (not (eqb memory 0))
     ∷ test 5 (not (eqb latches 65536))
     ∷ test 6 (ltb most64 (sum + n))
     ∷ [])
 
 -- the memory has its own number, 4 for the flat one
-unfoldable pub grantRefusal : {M : Type 0} → Store M → Core → ℕ → Buffers M → ℕ → ℕ
-grantRefusal σ c sum b n = lentRefusal c sum (σ .refusal (b .memory)) (length (b .latches)) n
+unfoldable pub grantRefusalIf : {M : Type 0} → Bool → Store M → Core → ℕ → Buffers M → ℕ → ℕ
+grantRefusalIf pending σ c sum b n = lentRefusalIf pending c sum (σ .refusal (b .memory)) (length (b .latches)) n
+
+-- by what steers the pending parameters
+module _ {D : Type 0} (δ : Steering D) where
+  abbrev pub accessRefusalOver : D → ℕ → ℕ → ℕ
+  accessRefusalOver d sum port = accessRefusalIf (δ .valid d) (δ .core d) sum port
+
+  abbrev pub grantRefusalOver : {M : Type 0} → Store M → D → ℕ → Buffers M → ℕ → ℕ
+  grantRefusalOver σ d sum b n = grantRefusalIf (δ .valid d) σ (δ .core d) sum b n
+
+-- with the number in the core
+abbrev pub accessRefusal : Core → ℕ → ℕ → ℕ
+accessRefusal c sum port = accessRefusalOver bits c sum port
+
+abbrev pub lentRefusal : Core → ℕ → ℕ → ℕ → ℕ → ℕ
+lentRefusal c sum memory latches n = lentRefusalIf (bits .valid c) c sum memory latches n
+
+abbrev pub grantRefusal : {M : Type 0} → Store M → Core → ℕ → Buffers M → ℕ → ℕ
+grantRefusal σ c sum b n = grantRefusalOver bits σ c sum b n

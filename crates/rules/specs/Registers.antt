@@ -5,10 +5,11 @@ use mathlib.Core.List.{[], _∷_}
 use lib.Dec.{eqb}
 use Rattle.rules.specs.Choice.{pick, _⇒_, firstOf}
 use Rattle.rules.specs.Bytes.{bit, withLow, withHigh}
-use Rattle.rules.specs.Parts.{withLength, withZilog, withForward, withPrescaler, withBurst, withRestart, withA, withB, withBlock, withControl, withReadback, withPending}
+use Rattle.rules.specs.Parts.{withLength, withZilog, withForward, withPrescaler, withBurst, withRestart, withA, withB, withBlock, withControl, withReadback}
 use Rattle.rules.specs.Ports.{configured, timed, addressedLow, addressedHigh}
 use Rattle.rules.specs.Selection.{selects}
-use Rattle.rules.specs.Pending.{aLow, aHigh, lengthLow, lengthHigh, aTiming, bTiming, prescaler, bLow, bHigh, isPending, next, pendingAfter}
+use Rattle.rules.specs.Pending.{aLow, aHigh, lengthLow, lengthHigh, aTiming, bTiming, prescaler, bLow, bHigh, isOne}
+use Rattle.rules.specs.Steering.{Steering, bits}
 use Rattle.rules.specs.Commands.{enable, disable, command}
 use Rattle.rules.specs.declared.Core.{Core}
 
@@ -55,35 +56,47 @@ abbrev pub masked : ℕ → Core → Core
 masked byte c =
     withReadback (record { mask = byte % 128; position = 0; waiting = c .readback .waiting }) c
 
--- the parameter with this code takes effect; each leaves the other byte of its number as it was. The last is the read mask
+-- a parameter takes effect; each leaves the other byte of its number as it was. The last is the read mask
 unfoldable pub parameter : ℕ → ℕ → Core → Core
-parameter code byte c =
+parameter which byte c =
     firstOf
-    (eqb code aLow ⇒ withA (addressedLow byte (c .a)) c
-    ∷ eqb code aHigh ⇒ withA (addressedHigh byte (c .a)) c
-    ∷ eqb code lengthLow ⇒ withBlock (withLength (withLow byte (c .block .length)) (c .block)) c
-    ∷ eqb code lengthHigh ⇒ withBlock (withLength (withHigh byte (c .block .length)) (c .block)) c
-    ∷ eqb code aTiming ⇒ withA (timed byte (c .a)) c
-    ∷ eqb code bTiming ⇒ withB (timed byte (c .b)) c
-    ∷ eqb code prescaler ⇒ withControl (withPrescaler byte (c .control)) c
-    ∷ eqb code bLow ⇒ withB (addressedLow byte (c .b)) c
-    ∷ eqb code bHigh ⇒ withB (addressedHigh byte (c .b)) c
+    (eqb which aLow ⇒ withA (addressedLow byte (c .a)) c
+    ∷ eqb which aHigh ⇒ withA (addressedHigh byte (c .a)) c
+    ∷ eqb which lengthLow ⇒ withBlock (withLength (withLow byte (c .block .length)) (c .block)) c
+    ∷ eqb which lengthHigh ⇒ withBlock (withLength (withHigh byte (c .block .length)) (c .block)) c
+    ∷ eqb which aTiming ⇒ withA (timed byte (c .a)) c
+    ∷ eqb which bTiming ⇒ withB (timed byte (c .b)) c
+    ∷ eqb which prescaler ⇒ withControl (withPrescaler byte (c .control)) c
+    ∷ eqb which bLow ⇒ withB (addressedLow byte (c .b)) c
+    ∷ eqb which bHigh ⇒ withB (addressedHigh byte (c .b)) c
     ∷ [])
     (masked byte c)
 
--- a byte is carried out by what is next: as the parameter with that code or, where none is pending, by the register that it
--- selects. The pending parameters stay as they are
-unfoldable pub carriedOut : ℕ → Core → Core
-carriedOut byte c = pick (isPending (c .pending)) (parameter (next (c .pending)) byte c) (register (selects byte) byte c)
-
--- an accepted byte: what it does to the rest of the core, and what is pending after it
-unfoldable pub effect : ℕ → Core → Core
-effect byte c = withPending (pendingAfter byte (c .pending)) (carriedOut byte c)
+-- a byte is carried out by what is next: as that parameter or, where none is pending, by the register that it selects. What
+-- is pending stays as it is
+unfoldable pub carriedOutAs : ℕ → ℕ → Core → Core
+carriedOutAs next byte c = pick (isOne next) (parameter next byte c) (register (selects byte) byte c)
 
 -- the port's low byte sets the compatibility mode: 0B Zilog, 6B zxn
 abbrev pub inMode : ℕ → Core → Core
 inMode port c = withBlock (withZilog (eqb (port % 256) 0x0B) (c .block)) c
 
--- an accepted write: the mode is set before the byte takes effect
+-- by what steers the pending parameters
+module _ {D : Type 0} (δ : Steering D) where
+  -- an accepted byte: what it does to the rest of the core, and what is pending after it
+  unfoldable pub effectOver : ℕ → D → D
+  effectOver byte d = δ .after byte (carriedOutAs (δ .next d) byte (δ .core d)) d
+
+  -- an accepted write: the mode is set before the byte takes effect
+  abbrev pub writtenOver : ℕ → ℕ → D → D
+  writtenOver port byte d = effectOver byte (δ .with (inMode port (δ .core d)) d)
+
+-- by the number in the core
+abbrev pub carriedOut : ℕ → Core → Core
+carriedOut byte c = carriedOutAs (bits .next c) byte c
+
+abbrev pub effect : ℕ → Core → Core
+effect byte c = effectOver bits byte c
+
 abbrev pub written : ℕ → ℕ → Core → Core
-written port byte c = effect byte (inMode port c)
+written port byte c = writtenOver bits port byte c

@@ -7,7 +7,7 @@ use lib.Dec.{leb, ltb, eqb}
 use Rattle.rules.specs.Choice.{pick, every, any, means}
 use Rattle.rules.specs.Blocks.{blockCount}
 use Rattle.rules.specs.Slots.{unmoved}
-use Rattle.rules.specs.Pending.{validPending}
+use Rattle.rules.specs.Steering.{Steering, bits}
 use Rattle.rules.specs.declared.Port.{Port}
 use Rattle.rules.specs.declared.Block.{Block}
 use Rattle.rules.specs.declared.Readback.{Readback}
@@ -44,14 +44,15 @@ validSlot enabled s = pick (eqb (s .elapsed) 0) (restingSlot s) (every (enabled 
 unfoldable pub validProgress : Bool → Block → Slot → Bool
 validProgress enabled b s = means (every (enabled ∷ unmoved s ∷ [])) (ltb (b .counter) (blockCount b))
 
-unfoldable pub validCore : Core → Bool
-validCore c =
+-- by whether what is pending is valid
+unfoldable pub validCoreIf : Bool → Core → Bool
+validCoreIf pending c =
     every
     (validPort (c .a)
     ∷ validPort (c .b)
     ∷ leb (c .block .counter) 65536
     ∷ validReadback (c .readback)
-    ∷ validPending (c .pending)
+    ∷ pending
     ∷ validSlot (c .enabled) (c .slot)
     ∷ validProgress (c .enabled) (c .block) (c .slot)
     ∷ [])
@@ -65,5 +66,16 @@ abbrev pub most64 : ℕ
 most64 = 18446744073709551615
 
 -- a valid core, and a sum of clock counts that fits 64 bits
-unfoldable pub valid : Core → ℕ → Bool
-valid c sum = every (validCore c ∷ leb sum most64 ∷ [])
+unfoldable pub validIf : Bool → Core → ℕ → Bool
+validIf pending c sum = every (validCoreIf pending c ∷ leb sum most64 ∷ [])
+
+-- by what steers the pending parameters
+abbrev pub validOver : {D : Type 0} → Steering D → D → ℕ → Bool
+validOver δ d sum = validIf (δ .valid d) (δ .core d) sum
+
+-- with the number in the core
+abbrev pub validCore : Core → Bool
+validCore c = validCoreIf (bits .valid c) c
+
+abbrev pub valid : Core → ℕ → Bool
+valid c sum = validOver bits c sum

@@ -10,18 +10,25 @@ use Rattle.rules.specs.declared.Place.{Place}
 use Rattle.rules.specs.declared.Clocks.{Clocks}
 use Rattle.rules.specs.declared.Core.{Core}
 
--- a core and the buffers it works on, without clock counts
-pub record World (M : Type 0) : Type 0 where
-  pub core : Core
+-- a core, kept as D, and the buffers it works on, without clock counts
+pub record WorldOf (D M : Type 0) : Type 0 where
+  pub core : D
   pub buffers : Buffers M
 
 -- a world and its clock counts
-pub record System (M : Type 0) : Type 0 where
-  pub world : World M
+pub record SystemOf (D M : Type 0) : Type 0 where
+  pub world : WorldOf D M
   pub clocks : Clocks
 
+-- with the core as the rules keep it
+abbrev pub World : Type 0 → Type 0
+World M = WorldOf Core M
+
+abbrev pub System : Type 0 → Type 0
+System M = SystemOf Core M
+
 -- a system from its parts
-abbrev pub system : {M : Type 0} → Core → Buffers M → Clocks → System M
+abbrev pub system : {D M : Type 0} → D → Buffers M → Clocks → SystemOf D M
 system c b k = record { world = record { core = c; buffers = b }; clocks = k }
 
 -- a byte that moved: from where, to where, and which

@@ -61,20 +61,6 @@ pub struct Readback {
     pub waiting: bool,
 }
 
-// The pending parameters (document 01: awaited), the next one first, 0 behind the last. Codes 1 to 10 are A address low
-// and high, length low and high, A timing, B timing, prescaler, B address low and high, read mask.
-#[repr(C)]
-pub struct Pending {
-    // Code of the next parameter, 0 for none.
-    pub first: u8,
-    // Code of the one after it, 0 for none.
-    pub second: u8,
-    // Code of the third, 0 for none.
-    pub third: u8,
-    // Code of the fourth, 0 for none.
-    pub fourth: u8,
-}
-
 // The running transfer slot (document 01: slot); in a valid core all 0 and continuous while no clock of one has elapsed.
 #[repr(C)]
 pub struct Slot {
@@ -117,7 +103,10 @@ pub struct Core {
     pub control: Control,
     pub status: Status,
     pub readback: Readback,
-    pub pending: Pending,
+    // The pending parameters (document 01: awaited), a bit for each, the lowest set bit the next one. Bits 0 to 9 are A address
+    // low and high, length low and high, A timing, B timing, prescaler, B address low and high, read mask; valid for any of
+    // the first four, for any of the two of B's address, and for each of the others alone.
+    pub pending: u16,
     // The device is enabled: a slot is running or about to begin.
     pub enabled: bool,
     pub slot: Slot,

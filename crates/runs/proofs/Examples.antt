@@ -2,7 +2,7 @@
 -- Assumes nothing.
 use mathlib.Core.Path.{refl}
 use Rattle.rules.specs.Opened.{opened}
-use Rattle.rules.specs.Entries.{runBy}
+use Rattle.rules.specs.Entries.{runOver}
 use Rattle.records.specs.BigEndian.{numberAt}
 use Rattle.records.specs.Records.{short, behind, writeRecord, readRecord, grantRecord, memoryRecord, ofKind, recordAt}
 use Rattle.lines.specs.Lines.{decimalTo, hexDigit, readLine, recordLine}
@@ -11,5 +11,5 @@ use Rattle.runs.specs.Sessions.{decodedFrom, decoded, entriesOf, linesOf
 use Rattle.runs.specs.Examples.{asciiFrom, writes, seen, must, ExamplesHold}
 
 pub examples-hold : ExamplesHold
-unfolding opened numberAt short behind writeRecord readRecord grantRecord memoryRecord ofKind recordAt decimalTo hexDigit readLine recordLine pokes entryOf decodedFrom decoded entriesOf runBy linesOf lastLine asciiFrom writes seen must
+unfolding opened numberAt short behind writeRecord readRecord grantRecord memoryRecord ofKind recordAt decimalTo hexDigit readLine recordLine pokes entryOf decodedFrom decoded entriesOf runOver linesOf lastLine asciiFrom writes seen must
 examples-hold = refl

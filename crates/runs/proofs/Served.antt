@@ -6,7 +6,7 @@ use mathlib.Core.List.{List, [], _∷_}
 use lib.ListN.{replicate, length-replicate}
 use Rattle.rules.specs.Buffers.{flat}
 use Rattle.rules.specs.World.{System}
-use Rattle.rules.specs.Entries.{Poke, flatOutside, Entry, enter, run, runBy}
+use Rattle.rules.specs.Entries.{Poke, flatOutside, Entry, enter, run, runOver}
 use Rattle.rules.specs.Reached.{NoneIs, Lends, WrongMemory, WrongLatches, OwnServe}
 use Rattle.rules.proofs.Reached.{answers-reached}
 use Rattle.records.specs.declared.Record.{Record}
@@ -18,7 +18,7 @@ use Rattle.runs.proofs.Sessions.{each-kind, session-writes}
 module _ (xs : List ℕ) where
   -- of a run from any system: 4 and 5 are answered to other buffers only, and none is lent
   buffers-serve : (rs : List Record) (s : System (List ℕ)) → OwnServe (entriesOf xs rs) (run flat flatOutside (entriesOf xs rs) s .answers) → NoneIs 4 (run flat flatOutside (entriesOf xs rs) s .answers) × NoneIs 5 (run flat flatOutside (entriesOf xs rs) s .answers)
-  unfolding entriesOf runBy OwnServe NoneIs
+  unfolding entriesOf runOver OwnServe NoneIs
   buffers-serve [] s h = (tt, tt)
   buffers-serve (r ∷ rs) s h =
       let rest = buffers-serve rs (enter flat flatOutside (entryOf xs r) s .system) (h .2) in (

@@ -16,7 +16,7 @@ use Rattle.rules.specs.Bytes.{AreBytes}
 use Rattle.rules.specs.Buffers.{flat}
 use Rattle.rules.specs.World.{System}
 use Rattle.rules.specs.Calls.{Answer}
-use Rattle.rules.specs.Entries.{Poke, flatOutside, Entry, portWrite, portRead, clockGrant, outsideChange, bytesWritten, run, runBy}
+use Rattle.rules.specs.Entries.{Poke, flatOutside, Entry, portWrite, portRead, clockGrant, outsideChange, bytesWritten, run, runOver}
 use Rattle.rules.proofs.Choice.{pick-both, pick-cases, pick-true}
 use Rattle.rules.proofs.Accounts.{demand3}
 use Rattle.rules.proofs.Reached.{every-reached}
@@ -51,17 +51,17 @@ after most xs r s =
 module _ (xs : List ℕ) (s : System (List ℕ)) where
   -- no record, and no fault
   pub played-end : played xs (endsBy 0) s ≡ endedBy (countsLine (s .clocks)) 0 s
-  unfolding entriesOf runBy linesOf lastLine pick
+  unfolding entriesOf runOver linesOf lastLine pick
   played-end = refl
 
   -- no record, and a fault
   pub played-fault : (fault : ℕ) → eqb fault 0 ≡ false → played xs (endsBy fault) s ≡ endedBy (faultLine fault) fault s
-  unfolding entriesOf runBy linesOf lastLine pick
+  unfolding entriesOf runOver linesOf lastLine pick
   played-fault fault e = simp e
 
   -- one record more
   played-more : (r : Record) (d : Decoded) → played xs (recordBefore r d) s ≡ lineBefore (answerLine r (effect xs r s)) (played xs d (effect xs r s .system))
-  unfolding entriesOf runBy linesOf
+  unfolding entriesOf runOver linesOf
   played-more r d =
       ap (λ (l : List ℕ). endedBy l (d .fault) (played xs d (effect xs r s .system) .system))
       (append-assoc (answerLine r (effect xs r s)) _ _)

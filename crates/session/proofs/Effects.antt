@@ -8,7 +8,7 @@ use mathlib.Core.List.{List, []}
 use borrow.Author.Tests.{eq-eqb, ne-eqb}
 use lib.ListN.{length, getD, set, length-set}
 use Rattle.rules.specs.Buffers.{flat}
-use Rattle.rules.specs.Calls.{Answer, Reply, accepted, unlessRefused, writeReply, readReply, grant}
+use Rattle.rules.specs.Calls.{Answer, Reply, accepted, unlessRefused, writeReply, readReply, grant, writeReplyOver}
 use Rattle.rules.specs.Entries.{Poke, poked, flatOutside, Entry, portWrite, portRead, clockGrant, outsideChange, enter}
 use Rattle.rules.specs.Choice.{pick}
 use Rattle.rules.specs.declared.Clocks.{Clocks}
@@ -24,7 +24,7 @@ use Rattle.records.specs.declared.Record.{Record}
 
 -- a write gives no byte
 write-byte : (c : Core) (k : Clocks) (port byte : ℕ) → writeReply c k port byte .answered .byte ≡ 0
-unfolding writeReply unlessRefused
+unfolding writeReplyOver unlessRefused
 write-byte c k port byte = pick-both (λ (r : Reply). r .answered .byte ≡ 0) _ _ _ refl refl
 
 module _ (xs : List ℕ) (r : Record) where

@@ -9,11 +9,11 @@ use borrow.Author.Tests.{eq-eqb, lt-ltb, le-ltb}
 use Rattle.rules.specs.Choice.{pick, test, firstHit}
 use Rattle.rules.specs.Validity.{valid, most64}
 use Rattle.rules.specs.Buffers.{lengthRefusal}
-use Rattle.rules.specs.Refusals.{lentRefusal}
+use Rattle.rules.specs.Refusals.{lentRefusal, lentRefusalIf}
 use Rattle.rules.specs.declared.Core.{Core}
 
 sum-alone : (c : Core) (sum m l n : ℕ) → valid c sum ≡ true → m ≡ 65536 → l ≡ 65536 → lentRefusal c sum (lengthRefusal m) l n ≡ firstHit (test 6 (ltb most64 (sum + n)) ∷ [])
-unfolding lentRefusal firstHit pick
+unfolding lentRefusalIf firstHit pick
 sum-alone c sum m l n v d e = simp (v, eq-eqb _ _ d, eq-eqb _ _ e)
 
 pub sum-refused : (c : Core) (sum m l n : ℕ) → valid c sum ≡ true → m ≡ 65536 → l ≡ 65536 → most64 < sum + n → 6 ≡ lentRefusal c sum (lengthRefusal m) l n

@@ -39,12 +39,9 @@ returns-4 : tie.Need-returns-4
 unfolding asked firstOf pick
 returns-4 c = simp (c .before .if4 .taken, ← c .before .before .before .before .before .register-of .ensures, c .wr4-asks .ensures)
 
-mask-asked-requires : tie.Need-mask-asked-requires
-mask-asked-requires c κs = search needs
-
 returns-5 : tie.Need-returns-5
 unfolding asked firstOf pick selects every
-returns-5 c = simp (c .before .if5 .taken, c .mask-asked .ensures)
+returns-5 c = simp (c .if5 .taken)
 
 returns-6 : tie.Need-returns-6
 unfolding asked firstOf pick
@@ -65,6 +62,5 @@ after-register-spec =
     returns-3
     wr4-asks-requires
     returns-4
-    mask-asked-requires
     returns-5
     returns-6)

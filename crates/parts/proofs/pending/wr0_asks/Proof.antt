@@ -1,34 +1,16 @@
--- The calls are the definition, the last parameter first.
+-- The part of the byte, moved to its bits, is what the register asks for.
 -- Assumes nothing.
+use mathlib.Core.Path.{sym}
+use Rattle.rules.proofs.Parameters.{wr0-number}
 use borrow.Author.Needs.{needs}
 use Rattle.parts.proofs.pending.wr0_asks.Statement.{statement}
 use Rattle.parts.proofs.pending.wr0_asks.Tie as tie
 
-none-requires : tie.Need-none-requires
-none-requires c κs = search needs
-
-ask-for-requires : tie.Need-ask-for-requires
-ask-for-requires c κs = search needs
-
-ask-for-requires-2 : tie.Need-ask-for-requires-2
-ask-for-requires-2 c κs = search needs
-
-ask-for-requires-3 : tie.Need-ask-for-requires-3
-ask-for-requires-3 c κs = search needs
-
-ask-for-requires-4 : tie.Need-ask-for-requires-4
-ask-for-requires-4 c κs = search needs
+cast-result : tie.Need-cast-result
+cast-result c = search needs
 
 returns : tie.Need-returns
-returns c = simp (c .before .before .before .before .none .ensures, c .before .before .before .ask-for .ensures, c .before .before .ask-for2 .ensures, c .before .ask-for3 .ensures, c .ask-for4 .ensures)
+returns c = sym (wr0-number _)
 
 pub wr0-asks-spec : {M : Type 1} → statement M
-wr0-asks-spec =
-    tie.close
-    (tie.spec
-    none-requires
-    ask-for-requires
-    ask-for-requires-2
-    ask-for-requires-3
-    ask-for-requires-4
-    returns)
+wr0-asks-spec = tie.close (tie.spec cast-result returns)

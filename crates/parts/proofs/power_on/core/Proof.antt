@@ -13,14 +13,11 @@ status-at-reset-requires c κs = search needs
 readback-at-reset-requires : tie.Need-readback-at-reset-requires
 readback-at-reset-requires c κs = search needs
 
-none-requires : tie.Need-none-requires
-none-requires c κs = search needs
-
 no-slot-requires : tie.Need-no-slot-requires
 no-slot-requires c κs = search needs
 
 returns : tie.Need-returns
-returns c = simp (c .before .before .before .before .port .ensures, c .before .before .before .status-at-reset .ensures, c .before .before .readback-at-reset .ensures, c .before .none .ensures, c .no-slot .ensures)
+returns c = simp (c .before .before .before .port .ensures, c .before .before .status-at-reset .ensures, c .before .readback-at-reset .ensures, c .no-slot .ensures)
 
 pub core-spec : {M : Type 1} → statement M
 core-spec =
@@ -29,6 +26,5 @@ core-spec =
     port-requires
     status-at-reset-requires
     readback-at-reset-requires
-    none-requires
     no-slot-requires
     returns)

@@ -1,7 +1,7 @@
 -- Each test that hits gives its number, in the order of the list.
 -- Assumes nothing.
 use Rattle.rules.specs.Choice.{firstHit, pick}
-use Rattle.rules.specs.Refusals.{accessRefusal}
+use Rattle.rules.specs.Refusals.{accessRefusalIf}
 use borrow.Author.Needs.{needs}
 use Rattle.parts.proofs.refusal.access_number.Statement.{statement}
 use Rattle.parts.proofs.refusal.access_number.Tie as tie
@@ -16,19 +16,19 @@ holds-bus-requires : tie.Need-holds-bus-requires
 holds-bus-requires c κs = search needs
 
 returns : tie.Need-returns
-unfolding accessRefusal firstHit pick
+unfolding accessRefusalIf firstHit pick
 returns c = simp (c .if1 .taken, ← c .before .before .before .is-valid .ensures, ← c .before .before .is-wrong-port .ensures, ← c .before .holds-bus .ensures)
 
 returns-2 : tie.Need-returns-2
-unfolding accessRefusal firstHit pick
+unfolding accessRefusalIf firstHit pick
 returns-2 c = simp (c .before .if1 .left, c .if2 .taken, ← c .before .before .before .before .is-valid .ensures, ← c .before .before .before .is-wrong-port .ensures, ← c .before .before .holds-bus .ensures)
 
 returns-3 : tie.Need-returns-3
-unfolding accessRefusal firstHit pick
+unfolding accessRefusalIf firstHit pick
 returns-3 c = simp (c .before .before .if1 .left, c .before .if2 .left, c .if3 .taken, ← c .before .before .before .before .before .is-valid .ensures, ← c .before .before .before .before .is-wrong-port .ensures, ← c .before .before .before .holds-bus .ensures)
 
 returns-4 : tie.Need-returns-4
-unfolding accessRefusal firstHit pick
+unfolding accessRefusalIf firstHit pick
 returns-4 c = simp (c .before .before .if1 .left, c .before .if2 .left, c .if3 .left, ← c .before .before .before .before .before .is-valid .ensures, ← c .before .before .before .before .is-wrong-port .ensures, ← c .before .before .before .holds-bus .ensures)
 
 pub access-number-spec : {M : Type 1} → statement M

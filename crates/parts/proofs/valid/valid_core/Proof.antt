@@ -3,7 +3,7 @@
 use mathlib.Core.Path.{sym, _∙_}
 use borrow.Author.Tests.{lt-leb, le-leb}
 use borrow.Author.Needs.{needs}
-use Rattle.rules.specs.Validity.{validCore}
+use Rattle.rules.specs.Validity.{validCoreIf}
 use Rattle.rules.proofs.Choice.{holds, fails, every-stop, every-stop-later, every-go, every-last}
 use Rattle.parts.proofs.valid.valid_core.Statement.{statement}
 use Rattle.parts.proofs.valid.valid_core.Tie as tie
@@ -12,46 +12,46 @@ valid-port-requires : tie.Need-valid-port-requires
 valid-port-requires c κs = search needs
 
 returns : tie.Need-returns
-unfolding validCore
+unfolding validCoreIf
 returns c = sym (every-stop _ _ (fails (c .before .valid-port .ensures) (c .if1 .taken)))
 
 valid-port-requires-2 : tie.Need-valid-port-requires-2
 valid-port-requires-2 c κs = search needs
 
 returns-2 : tie.Need-returns-2
-unfolding validCore
+unfolding validCoreIf
 returns-2 c = sym (every-stop-later _ _ (every-stop _ _ (fails (c .before .valid-port2 .ensures) (c .if2 .taken))))
 
 returns-3 : tie.Need-returns-3
-unfolding validCore
+unfolding validCoreIf
 returns-3 c = sym (every-stop-later _ _ (every-stop-later _ _ (every-stop _ _ (lt-leb _ _ (c .if3 .taken)))))
 
 valid-readback-requires : tie.Need-valid-readback-requires
 valid-readback-requires c κs = search needs
 
 returns-4 : tie.Need-returns-4
-unfolding validCore
+unfolding validCoreIf
 returns-4 c = sym (every-stop-later _ _ (every-stop-later _ _ (every-stop-later _ _ (every-stop _ _ (fails (c .before .valid-readback .ensures) (c .if4 .taken))))))
 
 is-valid-requires : tie.Need-is-valid-requires
 is-valid-requires c κs = search needs
 
 returns-5 : tie.Need-returns-5
-unfolding validCore
+unfolding validCoreIf
 returns-5 c = sym (every-stop-later _ _ (every-stop-later _ _ (every-stop-later _ _ (every-stop-later _ _ (every-stop _ _ (fails (c .before .is-valid .ensures) (c .if5 .taken)))))))
 
 valid-slot-requires : tie.Need-valid-slot-requires
 valid-slot-requires c κs = search needs
 
 returns-6 : tie.Need-returns-6
-unfolding validCore
+unfolding validCoreIf
 returns-6 c = sym (every-stop-later _ _ (every-stop-later _ _ (every-stop-later _ _ (every-stop-later _ _ (every-stop-later _ _ (every-stop _ _ (fails (c .before .valid-slot .ensures) (c .if6 .taken))))))))
 
 valid-progress-requires : tie.Need-valid-progress-requires
 valid-progress-requires c κs = search needs
 
 returns-7 : tie.Need-returns-7
-unfolding validCore
+unfolding validCoreIf
 returns-7 c =
     let at-slot = c .before in
     let at-pending = at-slot .before .before in

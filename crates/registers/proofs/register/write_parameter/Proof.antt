@@ -1,4 +1,4 @@
--- A code chooses its row; any other passes all rows by.
+-- A parameter chooses its row; any other passes all rows by.
 -- Assumes nothing.
 use Rattle.rules.specs.Choice.{pick, firstOf}
 use Rattle.rules.specs.Registers.{parameter}

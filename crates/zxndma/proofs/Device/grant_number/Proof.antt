@@ -2,7 +2,7 @@
 -- Assumes nothing.
 use Rattle.zxndma.proofs.Refusing.{sum-refused, sum-accepted}
 use Rattle.rules.specs.Choice.{firstHit, pick}
-use Rattle.rules.specs.Refusals.{lentRefusal}
+use Rattle.rules.specs.Refusals.{lentRefusalIf}
 use Rattle.rules.proofs.Calls.{valid-fits}
 use borrow.Author.Tests.{eq-eqb, ne-eqb}
 use native.Mathlib.Omega.{arith}
@@ -15,15 +15,15 @@ is-valid-requires : tie.Need-is-valid-requires
 is-valid-requires c κs = search needs
 
 returns : tie.Need-returns
-unfolding lentRefusal firstHit pick
+unfolding lentRefusalIf firstHit pick
 returns c = simp (c .if1 .taken, ← c .before .is-valid .ensures)
 
 returns-2 : tie.Need-returns-2
-unfolding lentRefusal firstHit pick
+unfolding lentRefusalIf firstHit pick
 returns-2 c = simp (c .before .if1 .left, ne-eqb _ _ (c .if2 .taken), ← c .before .before .is-valid .ensures)
 
 returns-3 : tie.Need-returns-3
-unfolding lentRefusal firstHit pick
+unfolding lentRefusalIf firstHit pick
 returns-3 c = simp (c .before .before .if1 .left, eq-eqb _ _ (c .before .if2 .left), ne-eqb _ _ (c .if3 .taken), ← c .before .before .before .is-valid .ensures)
 
 add-sum : tie.Need-add-sum

@@ -1,7 +1,7 @@
 -- Where the number is 0 the core is the one written to; else it is as it came.
 -- Assumes nothing.
 use Rattle.rules.specs.Choice.{pick}
-use Rattle.rules.specs.Calls.{unlessRefused, writeReply}
+use Rattle.rules.specs.Calls.{unlessRefused, writeReplyOver}
 use borrow.Author.Tests.{eq-eqb, ne-eqb}
 use borrow.Author.Needs.{needs}
 use Rattle.zxndma.proofs.Device.write.Statement.{statement}
@@ -14,11 +14,11 @@ write-requires : tie.Need-write-requires
 write-requires c κs = search needs
 
 returns : tie.Need-returns
-unfolding writeReply unlessRefused pick
+unfolding writeReplyOver unlessRefused pick
 returns c = simp (eq-eqb _ _ (c .before .if1 .taken), ← c .before .before .access-number .ensures, c .write .ensures)
 
 returns-2 : tie.Need-returns-2
-unfolding writeReply unlessRefused pick
+unfolding writeReplyOver unlessRefused pick
 returns-2 c = simp (ne-eqb _ _ (c .if1 .left), ← c .before .access-number .ensures)
 
 pub write-spec : {M : Type 1} → statement M

@@ -1,0 +1,132 @@
+-- The pending number stands aside: what a byte is carried out as, a read and a clock do the same to a core with another
+-- number in it, choice by choice, and a refusal looks at no more than whether what is pending is valid.
+-- Assumes nothing.
+use Prim.Native.Nat.{ℕ, zero, suc}
+use mathlib.Core.Path.{_≡_, refl, _∙_, ap}
+use mathlib.Core.Bool.{Bool}
+use Rattle.rules.specs.Parts.{withPending}
+use Rattle.rules.specs.Slots.{busHeld, slotOf}
+use Rattle.rules.specs.Validity.{validCoreIf, validIf}
+use Rattle.rules.specs.Commands.{enable, readingCommand, command}
+use Rattle.rules.specs.Registers.{wr3, register, parameter, carriedOutAs}
+use Rattle.rules.specs.Readback.{registerByte, Byte, gives, readByte}
+use Rattle.rules.specs.Clock.{Clock, clock, movesAt, movedAt, kindAt, Ending, ending, slotEnd, clockEnd, begun, slotClock, clockOf, counted}
+use Rattle.rules.specs.Buffers.{Store, Buffers, source, destination}
+use Rattle.rules.specs.World.{System, system, buffersAfter, stepCounted, clockedBy, clocked}
+use Rattle.rules.specs.Refusals.{accessRefusalIf, lentRefusalIf, grantRefusalIf}
+use Rattle.rules.specs.declared.Core.{Core}
+use Rattle.rules.proofs.Choice.{both-picked, ends, _∥_, tables}
+
+-- ---- refusals
+
+pub valid-aside : (t : Bool) (n : ℕ) (c : Core) (sum : ℕ) → validIf t (withPending n c) sum ≡ validIf t c sum
+unfolding validIf validCoreIf
+valid-aside t n c sum = refl
+
+pub access-aside : (t : Bool) (n : ℕ) (c : Core) (sum port : ℕ) → accessRefusalIf t (withPending n c) sum port ≡ accessRefusalIf t c sum port
+unfolding accessRefusalIf validIf validCoreIf busHeld
+access-aside t n c sum port = refl
+
+pub grant-aside : {M : Type 0} (t : Bool) (n : ℕ) (σ : Store M) (c : Core) (sum : ℕ) (b : Buffers M) (clocks : ℕ) → grantRefusalIf t σ (withPending n c) sum b clocks ≡ grantRefusalIf t σ c sum b clocks
+unfolding grantRefusalIf lentRefusalIf validIf validCoreIf
+grant-aside t n σ c sum b clocks = refl
+
+module _ (n : ℕ) where
+  -- ---- a byte
+
+  -- the second core is the first with n pending
+  abbrev With : Core → Core → Type 0
+  With c d = d ≡ withPending n c
+
+  enable-aside : (c : Core) → With (enable c) (enable (withPending n c))
+  unfolding enable
+  enable-aside c =
+      both-picked With _ _ _ _ _ (λ e. refl) (λ e. both-picked With _ _ _ _ _ (λ d. refl) (λ d. refl))
+
+  reading-command-aside : (byte : ℕ) (c : Core) → With (readingCommand byte c) (readingCommand byte (withPending n c))
+  unfolding readingCommand
+  reading-command-aside byte c = tables With (refl ∥ refl ∥ refl ∥ ends refl)
+
+  command-aside : (byte : ℕ) (c : Core) → With (command byte c) (command byte (withPending n c))
+  unfolding command
+  command-aside byte c =
+      tables With (refl ∥ refl ∥ refl ∥ refl ∥ refl ∥ enable-aside c ∥ refl ∥ ends (reading-command-aside byte c))
+
+  wr3-aside : (byte : ℕ) (c : Core) → With (wr3 byte c) (wr3 byte (withPending n c))
+  unfolding wr3
+  wr3-aside byte c = both-picked With _ _ _ _ _ (λ e. enable-aside c) (λ e. refl)
+
+  register-aside : (number byte : ℕ) (c : Core) → With (register number byte c) (register number byte (withPending n c))
+  unfolding register
+  register-aside number byte c =
+      tables With (refl ∥ refl ∥ refl ∥ wr3-aside byte c ∥ refl ∥ refl ∥ command-aside byte c ∥ ends refl)
+
+  parameter-aside : (which byte : ℕ) (c : Core) → With (parameter which byte c) (parameter which byte (withPending n c))
+  unfolding parameter
+  parameter-aside which byte c =
+      tables With (refl ∥ refl ∥ refl ∥ refl ∥ refl ∥ refl ∥ refl ∥ refl ∥ refl ∥ ends refl)
+
+  pub carried-aside : (next byte : ℕ) (c : Core) → carriedOutAs next byte (withPending n c) ≡ withPending n (carriedOutAs next byte c)
+  unfolding carriedOutAs
+  carried-aside next byte c =
+      both-picked With _ _ _ _ _ (λ e. parameter-aside next byte c) (λ e. register-aside _ byte c)
+
+  -- ---- a read
+
+  abbrev WithByte : Byte → Byte → Type 0
+  WithByte r s = s ≡ gives (r .byte) (withPending n (r .core))
+
+  pub read-aside : (c : Core) → readByte (withPending n c) ≡ gives (readByte c .byte) (withPending n (readByte c .core))
+  unfolding readByte registerByte
+  read-aside c = tables WithByte (refl ∥ refl ∥ ends refl)
+
+  -- ---- a clock
+
+  abbrev WithEnding : Ending → Ending → Type 0
+  WithEnding e f = f ≡ ending (e .zeroed) (withPending n (e .core))
+
+  abbrev WithClock : Clock → Clock → Type 0
+  WithClock k l = l ≡ clock (k .kind) (k .moves) (k .zeroed) (withPending n (k .next))
+
+  moved-aside : (m : ℕ) (c : Core) → With (movedAt m c) (movedAt m (withPending n c))
+  unfolding movedAt
+  moved-aside m c = both-picked With _ _ _ _ _ (λ e. refl) (λ e. refl)
+
+  slot-end-aside : (c : Core) → WithEnding (slotEnd c) (slotEnd (withPending n c))
+  unfolding slotEnd
+  slot-end-aside c =
+      both-picked WithEnding _ _ _ _ _ (λ e. both-picked WithEnding _ _ _ _ _ (λ d. refl) (λ d. refl)) (λ e. refl)
+
+  clock-end-aside : (m : ℕ) (c : Core) → WithEnding (clockEnd m c) (clockEnd m (withPending n c))
+  unfolding clockEnd
+  clock-end-aside m c = both-picked WithEnding _ _ _ _ _ (λ e. refl) (λ e. slot-end-aside c)
+
+  slot-clock-aside : (m : ℕ) (c : Core) → WithClock (slotClock m c) (slotClock m (withPending n c))
+  unfolding slotClock kindAt
+  slot-clock-aside m c =
+      ap (λ (e : Ending). clock (kindAt m c) (movesAt m c) (e .zeroed) (e .core))
+      (ap (clockEnd m) (moved-aside m c) ∙ clock-end-aside m (movedAt m c))
+
+  pub clock-aside : (c : Core) → clockOf (withPending n c) ≡ clock (clockOf c .kind) (clockOf c .moves) (clockOf c .zeroed) (withPending n (clockOf c .next))
+  unfolding clockOf slotOf
+  clock-aside c = both-picked WithClock _ _ _ _ _ (λ e. slot-clock-aside _ (begun c)) (λ e. refl)
+
+  -- ---- clocks
+
+  module _ {M : Type 0} (σ : Store M) where
+    -- the system with n pending
+    abbrev withNumber : System M → System M
+    withNumber s = system (withPending n (s .world .core)) (s .world .buffers) (s .clocks)
+
+    step-aside : (s : System M) → stepCounted σ (withNumber s) ≡ withNumber (stepCounted σ s)
+    unfolding source destination
+    step-aside s =
+        ap
+        (λ (k : Clock).
+        system (k .next) (buffersAfter σ (k .moves) (source (s .world .core)) (destination (s .world .core)) (s .world .buffers)) (counted (k .kind) (s .clocks)))
+        (clock-aside (s .world .core))
+
+    pub clocked-aside : (m : ℕ) (s : System M) → clocked σ m (system (withPending n (s .world .core)) (s .world .buffers) (s .clocks)) ≡ withNumber (clocked σ m s)
+    unfolding clockedBy
+    clocked-aside zero s = refl
+    clocked-aside (suc m) s = ap (stepCounted σ) (clocked-aside m s) ∙ step-aside (clocked σ m s)
