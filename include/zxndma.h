@@ -68,9 +68,10 @@ typedef struct zxndma_readback {
  * A number is valid if a register, or a B timing byte, can leave these parameters pending: 0 to 15, 16, 32, 64, 128, 256,
  * 384 (128 and 256) and 512. With any other number the device is not valid.
  *
- * These replace codes 1 to 10, in this order, which a device kept as a sequence of four with 0 behind the last. The number
- * of a sequence from a valid device is the sum of 2 to the power code - 1 over its codes that are not 0. Other sequences
- * have no number, even if their sum is a valid one: 2, 1 was not valid, and 3 stands for 1, 2. */
+ * These replace codes 1 to 10, in this order, which a device kept in four fields, `pending.first` to `pending.fourth`, the
+ * next one first, 0 behind the last. The number of a sequence from a valid device is the sum of 2 to the power code - 1
+ * over its codes that are not 0. Other sequences have no number, even if their sum is a valid one: 2, 1 was not valid, and
+ * 3 stands for 1, 2. */
 #define ZXNDMA_PENDING_A_ADDRESS_LOW 1
 #define ZXNDMA_PENDING_A_ADDRESS_HIGH 2
 #define ZXNDMA_PENDING_LENGTH_LOW 4

@@ -2,7 +2,7 @@
 //!
 //! How the device and its answers lie in memory: every struct by its size and
 //! every field by its name, type, place in the order, offset and size. And the
-//! bits of the pending parameters, which have names in C and Rust alone.
+//! bits of the pending parameters, by their names in C and Rust.
 //!
 //! Rattle: the declarations are read, and laid out as `repr(C)` says.
 //! C: the declarations are read, and the offsets and sizes that the header

@@ -5,7 +5,7 @@
 //! device, and after a grant both buffers, in a session after every record.
 //! The sessions of a seed are those that `compare.rs` makes of it. What the
 //! grants and the writes in burst waits came to is counted, and so are the
-//! numbers of pending parameters that came. It also tries each of these, and
+//! numbers of pending parameters that came. It also tries all 65,536, and
 //! sees that the second program stops where a slot would begin with its block
 //! finished.
 //!
@@ -57,7 +57,7 @@ Prints how often each number was answered, what the grants and the writes in
 burst waits came to, and how many numbers of pending parameters came. For each
 seed it tries all 65536 of these on devices that are valid otherwise: a write, a
 read and a grant must answer 1 exactly where the number stands for no sequence;
-to each other number each byte is written. Sees, too, that the calls refuse a
+each byte is written to a device with each other number. Sees, too, that the calls refuse a
 device whose slot would begin with the block finished, and that a clock of it
 stops the second program.
 
@@ -969,16 +969,18 @@ fn stored_session(bench: &mut Bench, path: &str) -> Result<(), String> {
 const SEQUENCES: usize = 23;
 
 /// The numbers of the sequences that 01's rule takes, of all there are. No two
-/// may share a number.
+/// may share a number, and the wrapper must give each the same.
 fn numbers_by_rule() -> Result<BTreeSet<u16>, String> {
     let mut numbers = BTreeSet::new();
     // Four codes, among them one more than there are parameters.
     for number in 0..12_u32.pow(4) {
         let code = |place: u32| (number / 12_u32.pow(place) % 12) as u8;
         let codes = [code(0), code(1), code(2), code(3)];
-        let shared =
-            model::valid_sequence(&codes) && !numbers.insert(Pending::Sequence(codes).number());
-        if shared {
+        let number = model::valid_sequence(&codes).then(|| Pending::Sequence(codes).number());
+        if zxndma::pending::from_codes(codes) != number {
+            return Err(format!("the wrapper does not make {:?} of {:?}", number, codes));
+        }
+        if number.is_some_and(|number| !numbers.insert(number)) {
             return Err(format!("another sequence has the number of {:?}", codes));
         }
     }

@@ -78,7 +78,7 @@ fn sequences_of_no_valid_device_have_no_number() {
 fn each_valid_number_has_one_sequence() {
     let mut found: Vec<u16> = Vec::new();
     for first in 0..=u8::MAX {
-        // Behind the first one, codes that there are not may be few.
+        // Behind the first, two codes that do not exist are enough.
         for rest in 0..13_u16.pow(3) {
             let code = |place: u32| (rest / 13_u16.pow(place) % 13) as u8;
             found.extend(pending::from_codes([first, code(0), code(1), code(2)]));
