@@ -1,7 +1,7 @@
 // The pending parameters: one number, a bit for each, the lowest set bit the next one. No other module looks into the number:
 // what is next, what is pending after a byte, and whether the number is valid, is all that they ask.
 ghost use mathlib.Core.Path.{_≡_};
-ghost use Rattle.rules.specs.Pending.{next, wr0Asks, wr1Asks, wr2Asks, wr4Asks, asked, pendingAfterAs, validPending};
+ghost use Rattle.rules.specs.Pending.{next, wr0Asks, timingAsks, wr4Asks, asked, pendingAfterAs, validPending};
 use crate::selection;
 
 // Nothing is pending.
@@ -75,18 +75,14 @@ fn wr0_asks(byte: u8) -> u16
     (byte / 8 % 16) as u16
 }
 
-// What WR1 asks for.
-fn wr1_asks(byte: u8) -> u16
-    ensures { λ r. ⌜ r ≡ wr1Asks byte ⌝ }
+// What WR1 or WR2 asks for, by the timing of its port.
+fn timing_asks(timing: u16, byte: u8) -> u16
+    ensures { λ r. ⌜ r ≡ timingAsks timing byte ⌝ }
 {
-    (byte / 64 % 2) as u16 * A_TIMING
-}
-
-// What WR2 asks for.
-fn wr2_asks(byte: u8) -> u16
-    ensures { λ r. ⌜ r ≡ wr2Asks byte ⌝ }
-{
-    (byte / 64 % 2) as u16 * B_TIMING
+    if byte / 64 % 2 == 1 {
+        return timing;
+    }
+    NOTHING
 }
 
 // What WR4 asks for: bits 2 and 3 are bits 7 and 8 of the number.
@@ -105,10 +101,10 @@ fn after_register(byte: u8, p: u16) -> u16
         return wr0_asks(byte);
     }
     if register == 1 {
-        return wr1_asks(byte);
+        return timing_asks(A_TIMING, byte);
     }
     if register == 2 {
-        return wr2_asks(byte);
+        return timing_asks(B_TIMING, byte);
     }
     if register == 4 {
         return wr4_asks(byte);

@@ -7,14 +7,14 @@ use mathlib.Core.Bool.{Bool, true, false, not}
 use mathlib.Core.List.{List, _∷_}
 use lib.ListN.{length}
 use borrow.Author.Tests.{leb-true, le-leb, le-ltb, ltb-false, eqb-true, eqb-false, eq-eqb, ne-eqb, not-false, not-true}
-use Rattle.rules.specs.Choice.{Test, test, firstHit}
+use Rattle.rules.specs.Choice.{pick, Test, test, firstHit}
 use Rattle.rules.specs.Slots.{busHeld}
 use Rattle.rules.specs.PowerOn.{powerOn, noClocks}
 use Rattle.rules.specs.Validity.{valid, total, most64, validIf}
 use Rattle.rules.specs.Facts.{ValidParts, InRange, Kept}
 use Rattle.rules.specs.Buffers.{Store, flat, Buffers}
 use Rattle.rules.specs.World.{System, clocked}
-use Rattle.rules.specs.Refusals.{wrongPort, accessRefusal, grantRefusal, grantRefusalIf, accessRefusalIf, lentRefusalIf}
+use Rattle.rules.specs.Refusals.{wrongPort, accessRefusal, lentRefusal, grantRefusal, grantRefusalIf, accessRefusalIf, lentRefusalIf}
 use Rattle.rules.specs.Calls.{Reply, Answer, accepted, refused, unlessRefused, writeReply, readReply, write, read, grantNumber, grant, readReplyOver, grantOver, writeReplyOver}
 use Rattle.rules.specs.Keeping.{ValidDevice, StaysValid, StaysValidByTest, HandsBack}
 use Rattle.rules.specs.Opened.{opened}
@@ -180,6 +180,33 @@ module _ {M : Type 0} (σ : Store M) where
   grant-refuses s n k e h =
       sym
       (pick-false _ _ _ (ne-eqb _ _ (λ z. h (sym e ∙ z))) ∙ (λ i. record { answered = refused (e i); system = s }))
+
+-- ---- a device that is not valid is refused with 1 by every call
+
+pub invalid-access : (c : Core) (sum port : ℕ) → not (valid c sum) ≡ true → accessRefusal c sum port ≡ 1
+unfolding accessRefusalIf firstHit
+invalid-access c sum port e = pick-true _ _ _ e
+
+pub invalid-lent : (c : Core) (sum memory latches n : ℕ) → not (valid c sum) ≡ true → lentRefusal c sum memory latches n ≡ 1
+unfolding lentRefusalIf firstHit
+invalid-lent c sum memory latches n e = pick-true _ _ _ e
+
+-- unless the number is 1
+unless-one : (number byte : ℕ) (next c : Core) (k : Clocks) → number ≡ 1 → unlessRefused number byte next c k ≡ record { answered = refused 1; core = c; clocks = k }
+unfolding unlessRefused pick
+unless-one number byte next c k e = rw e refl
+
+pub invalid-write : (c : Core) (k : Clocks) (port byte : ℕ) → not (valid c (total k)) ≡ true → writeReply c k port byte ≡ record { answered = refused 1; core = c; clocks = k }
+unfolding writeReplyOver
+invalid-write c k port byte e = unless-one _ _ _ c k (invalid-access c (total k) port e)
+
+pub invalid-read : (c : Core) (k : Clocks) (port : ℕ) → not (valid c (total k)) ≡ true → readReply c k port ≡ record { answered = refused 1; core = c; clocks = k }
+unfolding readReplyOver
+invalid-read c k port e = unless-one _ _ _ c k (invalid-access c (total k) port e)
+
+pub invalid-grant : {M : Type 0} (σ : Store M) (s : System M) (n : ℕ) → not (valid (s .world .core) (total (s .clocks))) ≡ true → grant σ s n ≡ record { answered = refused 1; system = s }
+unfolding grantRefusalIf
+invalid-grant σ s n e = sym (grant-refuses σ s n 1 (invalid-lent (s .world .core) (total (s .clocks)) _ _ n e) (λ z. omega (arith, z)))
 
 -- a flat memory that is not refused has 65,536 bytes
 pub flat-memory : (m : List ℕ) → flat .refusal m ≡ 0 → length m ≡ 65536

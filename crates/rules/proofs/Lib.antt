@@ -8,7 +8,6 @@ pub mod Ports
 pub mod Parameters
 pub mod Aside
 pub mod Sequences
-pub mod Awaiting
 pub mod Selection
 pub mod Steady
 pub mod Writing
@@ -20,6 +19,7 @@ pub mod Stretches
 pub mod WholeSlots
 pub mod Turns
 pub mod Calls
+pub mod Awaiting
 pub mod Refusing
 pub mod Counter
 pub mod Entries

@@ -63,27 +63,15 @@ from-sequence c sum e =
 
 -- ---- a port write, and a port read
 
--- the same reply, but for the number in place of a valid sequence
-record SameReply (r : ReplyOf SequenceCore) (s : Reply) : Type 0 where
-  answered : s .answered ≡ r .answered
-  core : s .core ≡ numbered (r .core)
-  clocks : s .clocks ≡ r .clocks
-  sequence : Valid (r .core)
+-- the same answer, but for the number in place of a valid sequence
+record SameAnswer {M : Type 0} (a : AnswerOf SequenceCore M) (b : Answer M) : Type 0 where
+  answered : b .answered ≡ a .answered
+  system : b .system ≡ numberedSystem (a .system)
+  sequence : Valid (a .system .world .core)
 
 access-same : (d : SequenceCore) (sum port : ℕ) → Valid d → accessRefusal (numbered d) sum port ≡ accessRefusalOver sequences d sum port
 access-same d sum port e =
     ap (λ (t : Bool). accessRefusalIf t (numbered d) sum port) (valid-same d e) ∙ access-aside _ _ (d .others) sum port
-
-unless-same : (number byte : ℕ) (x d : SequenceCore) (k : Clocks) → Valid x → Valid d → SameReply (unlessRefused number byte x d k) (unlessRefused number byte (numbered x) (numbered d) k)
-unfolding unlessRefused
-unless-same number byte x d k v e =
-    both-picked SameReply _ _ _ _ _
-    (λ h. record { answered = refl; core = refl; clocks = refl; sequence = v })
-    (λ h. record { answered = refl; core = refl; clocks = refl; sequence = e })
-
--- by equal numbers, bytes and cores
-reply-same : (number other byte another : ℕ) (x d : SequenceCore) (c : Core) (k : Clocks) → other ≡ number → another ≡ byte → c ≡ numbered x → Valid x → Valid d → SameReply (unlessRefused number byte x d k) (unlessRefused other another c (numbered d) k)
-reply-same number other byte another x d c k f g h v e = rw f (rw g (rw h (unless-same number byte x d k v e)))
 
 written-same : (port byte : ℕ) (d : SequenceCore) → Valid d → written port byte (numbered d) ≡ numbered (writtenOver sequences port byte d)
 unfolding effectOver
@@ -97,57 +85,69 @@ written-valid : (port byte : ℕ) (d : SequenceCore) → Valid d → Valid (writ
 unfolding effectOver
 written-valid port byte d e = after-stands byte _ e .0
 
-write-same : (d : SequenceCore) (k : Clocks) (port byte : ℕ) → Valid d → SameReply (writeReplyOver sequences d k port byte) (writeReply (numbered d) k port byte)
-unfolding writeReplyOver
-write-same d k port byte e =
-    reply-same _ _ _ _ _ _ _ k (access-same d (total k) port e) refl (written-same port byte d e) (written-valid port byte d e) e
+module _ {M : Type 0} where
+  -- replies beside buffers
+  abbrev SameReply : Buffers M → ReplyOf SequenceCore → Reply → Type 0
+  SameReply b r s = SameAnswer (beside b r) (beside b s)
 
-read-same : (d : SequenceCore) (k : Clocks) (port : ℕ) → Valid d → SameReply (readReplyOver sequences d k port) (readReply (numbered d) k port)
-unfolding readReplyOver
-read-same d k port e =
-    let r = read-aside (numberOf (d .pending)) (d .others) in
-    reply-same _ _ _ _ _ _ _ k (access-same d (total k) port e) (ap (λ (b : Byte). b .byte) r) (ap (λ (b : Byte). b .core) r) e e
+  unless-same : (b : Buffers M) (number byte : ℕ) (x d : SequenceCore) (k : Clocks) → Valid x → Valid d → SameReply b (unlessRefused number byte x d k) (unlessRefused number byte (numbered x) (numbered d) k)
+  unfolding unlessRefused
+  unless-same b number byte x d k v e =
+      both-picked (SameReply b) _ _ _ _ _
+      (λ h. record { answered = refl; system = refl; sequence = v })
+      (λ h. record { answered = refl; system = refl; sequence = e })
+
+  -- by equal numbers, bytes and cores
+  reply-same :
+      (b : Buffers M) (number other byte another : ℕ) (x d : SequenceCore) (c : Core) (k : Clocks)
+      → other ≡ number
+      → another ≡ byte
+      → c ≡ numbered x
+      → Valid x
+      → Valid d
+      → SameReply b (unlessRefused number byte x d k) (unlessRefused other another c (numbered d) k)
+  reply-same b number other byte another x d c k f g h v e = rw f (rw g (rw h (unless-same b number byte x d k v e)))
+
+  write-same : (b : Buffers M) (d : SequenceCore) (k : Clocks) (port byte : ℕ) → Valid d → SameReply b (writeReplyOver sequences d k port byte) (writeReply (numbered d) k port byte)
+  unfolding writeReplyOver
+  write-same b d k port byte e =
+      reply-same b _ _ _ _ _ _ _ k (access-same d (total k) port e) refl (written-same port byte d e) (written-valid port byte d e) e
+
+  read-same : (b : Buffers M) (d : SequenceCore) (k : Clocks) (port : ℕ) → Valid d → SameReply b (readReplyOver sequences d k port) (readReply (numbered d) k port)
+  unfolding readReplyOver
+  read-same b d k port e =
+      let r = read-aside (numberOf (d .pending)) (d .others) in
+      reply-same b _ _ _ _ _ _ _ k (access-same d (total k) port e) (ap (λ (b : Byte). b .byte) r) (ap (λ (b : Byte). b .core) r) e e
 
 -- ---- a grant
 
-module _ {M : Type 0} where
-  -- the same answer, but for the number in place of a valid sequence
-  record SameAnswer (a : AnswerOf SequenceCore M) (b : Answer M) : Type 0 where
-    answered : b .answered ≡ a .answered
-    system : b .system ≡ numberedSystem (a .system)
-    sequence : Valid (a .system .world .core)
+module _ {M : Type 0} (σ : Store M) where
+  number-same : (s : SystemOf SequenceCore M) (n : ℕ) → Valid (s .world .core) → grantNumber σ (numberedSystem s) n ≡ grantNumberOver sequences σ s n
+  number-same s n e =
+      ap (λ (t : Bool). grantRefusalIf t σ (numbered (s .world .core)) (total (s .clocks)) (s .world .buffers) n) (valid-same (s .world .core) e)
+      ∙ grant-aside _ _ σ (s .world .core .others) (total (s .clocks)) (s .world .buffers) n
 
-  reply-answer : (b : Buffers M) (r : ReplyOf SequenceCore) (s : Reply) → SameReply r s → SameAnswer (beside b r) (beside b s)
-  reply-answer b r s h =
-      record { answered = h .answered; system = λ i. system (h .core i) b (h .clocks i); sequence = h .sequence }
-
-  module _ (σ : Store M) where
-    number-same : (s : SystemOf SequenceCore M) (n : ℕ) → Valid (s .world .core) → grantNumber σ (numberedSystem s) n ≡ grantNumberOver sequences σ s n
-    number-same s n e =
-        ap (λ (t : Bool). grantRefusalIf t σ (numbered (s .world .core)) (total (s .clocks)) (s .world .buffers) n) (valid-same (s .world .core) e)
-        ∙ grant-aside _ _ σ (s .world .core .others) (total (s .clocks)) (s .world .buffers) n
-
-    grant-same : (s : SystemOf SequenceCore M) (n : ℕ) → Valid (s .world .core) → SameAnswer (grantOver sequences clockOf σ s n) (grant σ (numberedSystem s) n)
-    unfolding grantOver
-    grant-same s n e =
-        rw (number-same s n e)
-        (both-picked SameAnswer _ _ _ _ _
-        (λ z.
-        record {
-          answered = refl;
-          system = clocked-aside (numberOf (s .world .core .pending)) σ n (system (s .world .core .others) (s .world .buffers) (s .clocks));
-          sequence = e;
-        })
-        (λ z. record { answered = refl; system = refl; sequence = e }))
+  grant-same : (s : SystemOf SequenceCore M) (n : ℕ) → Valid (s .world .core) → SameAnswer (grantOver sequences clockOf σ s n) (grant σ (numberedSystem s) n)
+  unfolding grantOver
+  grant-same s n e =
+      rw (number-same s n e)
+      (both-picked SameAnswer _ _ _ _ _
+      (λ z.
+      record {
+        answered = refl;
+        system = clocked-aside (numberOf (s .world .core .pending)) σ n (system (s .world .core .others) (s .world .buffers) (s .clocks));
+        sequence = e;
+      })
+      (λ z. record { answered = refl; system = refl; sequence = e }))
 
 -- ---- lists of calls
 
 module _ {M C : Type 0} (σ : Store M) (ω : Outside M C) where
   entry-same : (x : Entry σ C) (s : SystemOf SequenceCore M) → Valid (s .world .core) → SameAnswer (enterOver sequences clockOf σ ω x s) (enter σ ω x (numberedSystem s))
   entry-same (portWrite port byte) s e =
-      reply-answer (s .world .buffers) _ _ (write-same (s .world .core) (s .clocks) port byte e)
+      write-same (s .world .buffers) (s .world .core) (s .clocks) port byte e
   entry-same (portRead port) s e =
-      reply-answer (s .world .buffers) _ _ (read-same (s .world .core) (s .clocks) port e)
+      read-same (s .world .buffers) (s .world .core) (s .clocks) port e
   entry-same (clockGrant n) s e = grant-same σ s n e
   entry-same (otherGrant n b wrong) s e =
       let h = grant-same σ (besideBuffers b s) n e in

@@ -2,6 +2,7 @@
 -- What a register's byte asks for is a part of the byte, moved to its bits.
 -- Assumes nothing.
 use Prim.Native.Nat.{ℕ, zero, suc, _+_, _*_, _/_, _%_, _<_}
+use native.Mathlib.Nat.{add-zero}
 use native.Mathlib.Omega.{arith}
 use mathlib.Core.Path.{_≡_, refl, _∙_, ap}
 use mathlib.Core.Bool.{Bool, true}
@@ -9,7 +10,7 @@ use lib.Dec.{eqb}
 use borrow.Author.Tests.{ltb-true, eqb-true}
 use Rattle.rules.specs.Choice.{means}
 use Rattle.rules.specs.Bytes.{bit}
-use Rattle.rules.specs.Pending.{aLow, aHigh, lengthLow, lengthHigh, aTiming, bTiming, prescaler, bLow, bHigh, readMask, nothing, next, rest, ask, wr0Asks, wr1Asks, wr2Asks, wr4Asks, asked, usedUp, pendingAfterAs, pendingAfter, validPending}
+use Rattle.rules.specs.Pending.{aLow, aHigh, lengthLow, lengthHigh, aTiming, bTiming, prescaler, bLow, bHigh, readMask, nothing, next, rest, ask, wr0Asks, timingAsks, wr4Asks, asked, usedUp, pendingAfterAs, pendingAfter, validPending}
 use Rattle.rules.specs.Opened.{opened}
 use Rattle.rules.proofs.Choice.{pick-both, below, _⨾_, table, all-true, any-cases, any-none, means-so}
 use Rattle.rules.proofs.Trying.{allBelow, below-at}
@@ -61,12 +62,6 @@ wr0-number byte =
     let g = two-bits (byte / 32) (byte / 64) (omega arith) in
     a ∙ ap (λ x. byte / 8 % 2 * aLow + x) (b ∙ ap (λ x. byte / 16 % 2 * aHigh + x) (c ∙ ap (λ x. byte / 32 % 2 * lengthLow + x) d)) ∙ together (byte / 8 % 2) (byte / 16 % 2) (byte / 32 % 2) (byte / 64 % 2) _ _ _ e f g
 
-pub wr1-number : (byte : ℕ) → wr1Asks byte ≡ byte / 64 % 2 * aTiming
-wr1-number byte = let a = ask-bit (byte / 64 % 2) aTiming nothing (omega arith) in omega (arith, a)
-
-pub wr2-number : (byte : ℕ) → wr2Asks byte ≡ byte / 64 % 2 * bTiming
-wr2-number byte = let a = ask-bit (byte / 64 % 2) bTiming nothing (omega arith) in omega (arith, a)
-
 pair : (a b x : ℕ) → x ≡ a * 1 + b * 2 → a * bLow + (b * bHigh + 0) ≡ x * bLow
 pair a b x e = omega (arith, e)
 
@@ -85,17 +80,25 @@ pub wr0-valid : (byte : ℕ) → Valid (wr0Asks byte)
 unfolding opened allBelow
 wr0-valid byte = rw (wr0-number byte) (scaled-valid 16 (byte / 8 % 16) (λ y. y) refl (omega arith))
 
-pub wr1-valid : (byte : ℕ) → Valid (wr1Asks byte)
-unfolding opened allBelow
-wr1-valid byte = rw (wr1-number byte) (scaled-valid 2 (byte / 64 % 2) (λ y. y * aTiming) refl (omega arith))
-
-pub wr2-valid : (byte : ℕ) → Valid (wr2Asks byte)
-unfolding opened allBelow
-wr2-valid byte = rw (wr2-number byte) (scaled-valid 2 (byte / 64 % 2) (λ y. y * bTiming) refl (omega arith))
-
 pub wr4-valid : (byte : ℕ) → Valid (wr4Asks byte)
 unfolding opened allBelow
 wr4-valid byte = rw (wr4-number byte) (scaled-valid 4 (byte / 4 % 4) (λ y. y * bLow) refl (omega arith))
+
+pub nothing-valid : Valid nothing
+unfolding opened
+nothing-valid = refl
+
+pub timing-valid : (timing : ℕ) → Valid timing → (byte : ℕ) → Valid (timingAsks timing byte)
+unfolding ask
+timing-valid timing v byte = pick-both Valid _ _ _ (rw (add-zero timing) v) nothing-valid
+
+pub a-timing-valid : Valid aTiming
+unfolding opened
+a-timing-valid = refl
+
+pub b-timing-valid : Valid bTiming
+unfolding opened
+b-timing-valid = refl
 
 pub prescaler-valid : Valid prescaler
 unfolding opened
@@ -124,7 +127,13 @@ used-valid byte p e = pick-both Valid _ _ _ prescaler-valid (rest-valid p e)
 asked-valid : (byte p : ℕ) → Valid p → Valid (asked byte p)
 unfolding asked
 asked-valid byte p e =
-    table Valid (wr0-valid byte ⨾ wr1-valid byte ⨾ wr2-valid byte ⨾ wr4-valid byte ⨾ mask-valid ⨾ below e)
+    table Valid
+    (wr0-valid byte
+    ⨾ timing-valid aTiming a-timing-valid byte
+    ⨾ timing-valid bTiming b-timing-valid byte
+    ⨾ wr4-valid byte
+    ⨾ mask-valid
+    ⨾ below e)
 
 pub after-valid : (byte p : ℕ) → Valid p → Valid (pendingAfter byte p)
 unfolding pendingAfterAs

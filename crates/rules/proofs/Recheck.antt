@@ -11,7 +11,7 @@ use mathlib.Core.Option.{none}
 use mathlib.Core.List.{List, [], _∷_}
 use lib.Dec.{eqb, ltb}
 use borrow.Author.Tests.{eqb-true, eqb-false, eq-eqb, ne-eqb, ltb-true}
-use Rattle.rules.specs.Choice.{every, firstHit}
+use Rattle.rules.specs.Choice.{every}
 use Rattle.rules.specs.Parts.{withSlot}
 use Rattle.rules.specs.Blocks.{blockCount, finished}
 use Rattle.rules.specs.Slots.{newSlot, busHeld}
@@ -24,7 +24,7 @@ use Rattle.rules.specs.Readback.{Byte, readByte}
 use Rattle.rules.specs.Clock.{cpuClock, Clock, clock, stopped, movedAt, Ending, slotEnd, clockEnd, slotClock, begun, clockOf}
 use Rattle.rules.specs.Buffers.{Store, Buffers}
 use Rattle.rules.specs.World.{System, stepCountedBy, clockedBy, clocked}
-use Rattle.rules.specs.Refusals.{accessRefusal, lentRefusal, grantRefusal, accessRefusalIf, lentRefusalIf}
+use Rattle.rules.specs.Refusals.{grantRefusal}
 use Rattle.rules.specs.Calls.{Answered, Answer, accepted, grantNumber, grantBy, grant, Reply, unlessRefused, writeReply, readReply, readReplyOver, grantOver, writeReplyOver}
 use Rattle.rules.specs.Entries.{Outside, Entry, portWrite, portRead, clockGrant, otherGrant, outsideChange, besideBuffers, Run, enterBy, enter, runBy, run, systemAtPowerOn, runOver}
 use Rattle.rules.specs.History.{Past, EntryNoted, History, notedUnless, grantNotedBy, clockPassedBy, clocksPassedBy, clocksPassed, noteEntryBy, noteEntry, historyBy, history}
@@ -38,7 +38,7 @@ use Rattle.rules.proofs.Validity.{core-parts, slot-facts, progress-fact
 use Rattle.rules.proofs.Slots.{unmoved-first, free-settled}
 use Rattle.rules.proofs.Stretches.{clock-first, clock-later}
 use Rattle.rules.proofs.World.{clocked-zero, clocked-suc}
-use Rattle.rules.proofs.Calls.{access, granted, valid-parts}
+use Rattle.rules.proofs.Calls.{access, granted, invalid-access, invalid-lent, valid-parts}
 
 -- ---- where it does not hit
 
@@ -249,14 +249,6 @@ unfolding validIf
 hit-invalid c sum h =
     not-of-false _ (every-stop _ _ (either (validCore c) (λ v. clash (sym (valid-unhit c v) ∙ h)) (λ v. v)))
 
-access-hit : (c : Core) (sum port : ℕ) → recheckHits c ≡ true → accessRefusal c sum port ≡ 1
-unfolding accessRefusalIf firstHit
-access-hit c sum port h = pick-true _ _ _ (hit-invalid c sum h)
-
-grant-hit : (c : Core) (sum memory latches n : ℕ) → recheckHits c ≡ true → lentRefusal c sum memory latches n ≡ 1
-unfolding lentRefusalIf firstHit
-grant-hit c sum memory latches n h = pick-true _ _ _ (hit-invalid c sum h)
-
 -- ---- grants
 
 module _ {M : Type 0} (σ : Store M) where
@@ -362,8 +354,8 @@ recheck-never-hits =
           clocked-unhit σ (run σ ω es (systemAtPowerOn m l) .system) n
           (run-unhit σ ω es (systemAtPowerOn m l) (off-unhit powerOn refl));
       kept = λ σ ω es s n h. clocked-unhit σ (run σ ω es s .system) n (run-unhit σ ω es s h);
-      access = access-hit;
-      grant = grant-hit;
+      access = λ c sum port h. invalid-access c sum port (hit-invalid c sum h);
+      grant = λ c sum memory latches n h. invalid-lent c sum memory latches n (hit-invalid c sum h);
     }
 
 pub recheck-nearest : RecheckNearest

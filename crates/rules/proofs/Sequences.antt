@@ -10,8 +10,8 @@ use lib.Dec.{eqb}
 use borrow.Author.Tests.{leb-true, eqb-true}
 use Rattle.rules.specs.Choice.{pick, _⇒_, firstOf, every, means}
 use Rattle.rules.specs.Bytes.{bit}
-use Rattle.rules.specs.Pending.{aLow, aHigh, lengthLow, lengthHigh, aTiming, bTiming, prescaler, bLow, bHigh, nothing, next, isPending, rest, ask, wr0Asks, wr1Asks, wr2Asks, wr4Asks, asked, usedUp, pendingAfterAs, pendingAfter, validPending}
-use Rattle.rules.specs.Sequences.{Sequence, codes, empty, afterFirst, inFront, wr0Sequence, wr1Sequence, wr2Sequence, wr4Sequence, sequenceAsked, sequenceUsedUp, sequenceAfter, follows, validSequence, parameterOf, bitOf, numberOf}
+use Rattle.rules.specs.Pending.{aLow, aHigh, lengthLow, lengthHigh, aTiming, bTiming, prescaler, bLow, bHigh, nothing, next, isPending, rest, ask, wr0Asks, timingAsks, wr4Asks, asked, usedUp, pendingAfterAs, pendingAfter, validPending}
+use Rattle.rules.specs.Sequences.{Sequence, codes, empty, afterFirst, inFront, wr0Sequence, timingSequence, wr4Sequence, sequenceAsked, sequenceUsedUp, sequenceAfter, follows, validSequence, parameterOf, bitOf, numberOf}
 use Rattle.rules.specs.Opened.{opened}
 use Rattle.rules.proofs.Choice.{clash, both-picked, ends, _∥_, tables, all-true, any-cases, any-none, means-so}
 use Rattle.rules.proofs.Trying.{allBelow, below-at}
@@ -130,13 +130,21 @@ unfolding sequencesOpened wr4-ways
 wr4-stands byte =
     it-stands (wr4Sequence byte) _ (anyway-at (wr4-ways (bit 2 byte)) (anyway-at (λ s. anyway (wr4-ways s)) refl (bit 2 byte)) (bit 3 byte))
 
-wr1-stands : (byte : ℕ) → Stands (wr1Sequence byte) (wr1Asks byte)
-unfolding sequencesOpened
-wr1-stands byte = it-stands (wr1Sequence byte) _ (anyway-at (λ t. stands (inFront t 5 empty) (ask t aTiming nothing)) refl (bit 6 byte))
+timing-ways : ℕ → ℕ → Bool → Bool
+timing-ways code timing t = stands (inFront t code empty) (ask t timing nothing)
 
-wr2-stands : (byte : ℕ) → Stands (wr2Sequence byte) (wr2Asks byte)
-unfolding sequencesOpened
-wr2-stands byte = it-stands (wr2Sequence byte) _ (anyway-at (λ t. stands (inFront t 6 empty) (ask t bTiming nothing)) refl (bit 6 byte))
+timing-stands : (code timing : ℕ) → anyway (timing-ways code timing) ≡ true → (byte : ℕ) → Stands (timingSequence code byte) (timingAsks timing byte)
+unfolding timing-ways
+timing-stands code timing e byte =
+    it-stands (timingSequence code byte) _ (anyway-at (timing-ways code timing) e (bit 6 byte))
+
+a-timing-stands : anyway (timing-ways 5 aTiming) ≡ true
+unfolding sequencesOpened timing-ways
+a-timing-stands = refl
+
+b-timing-stands : anyway (timing-ways 6 bTiming) ≡ true
+unfolding sequencesOpened timing-ways
+b-timing-stands = refl
 
 mask-stands : Stands (codes 10 0 0 0) 512
 unfolding sequencesOpened
@@ -145,7 +153,13 @@ mask-stands = it-stands (codes 10 0 0 0) _ refl
 asked-stands : (byte : ℕ) (q : Sequence) → Valid q → Stands (sequenceAsked byte q) (asked byte (numberOf q))
 unfolding sequenceAsked asked
 asked-stands byte q e =
-    tables Stands (wr0-stands byte ∥ wr1-stands byte ∥ wr2-stands byte ∥ wr4-stands byte ∥ mask-stands ∥ ends (e, refl))
+    tables Stands
+    (wr0-stands byte
+    ∥ timing-stands 5 aTiming a-timing-stands byte
+    ∥ timing-stands 6 bTiming b-timing-stands byte
+    ∥ wr4-stands byte
+    ∥ mask-stands
+    ∥ ends (e, refl))
 
 -- ---- what a parameter leaves
 
@@ -173,7 +187,7 @@ after-stands byte q e =
 -- ---- from a number back to its sequence
 
 -- the code of a bit, 0 for none
-unfoldable pub codeOf : ℕ → ℕ
+codeOf : ℕ → ℕ
 codeOf b =
     firstOf
     (eqb b 1 ⇒ 1 ∷ eqb b 2 ⇒ 2 ∷ eqb b 4 ⇒ 3 ∷ eqb b 8 ⇒ 4 ∷ eqb b 16 ⇒ 5 ∷ eqb b 32 ⇒ 6 ∷ eqb b 64 ⇒ 7 ∷ eqb b 128 ⇒ 8 ∷ eqb b 256 ⇒ 9 ∷ eqb b 512 ⇒ 10 ∷ [])

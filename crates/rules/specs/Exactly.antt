@@ -11,7 +11,7 @@ use Rattle.rules.specs.Bytes.{bit}
 use Rattle.rules.specs.Blocks.{blockCount, finished}
 use Rattle.rules.specs.Slots.{busHeld}
 use Rattle.rules.specs.Selection.{isWR0, isWR1, isWR2, isWR4, selections}
-use Rattle.rules.specs.Pending.{aLow, aHigh, lengthLow, lengthHigh, aTiming, bTiming, prescaler, bLow, bHigh, readMask, nothing, next, isPending, rest, wr0Asks, wr1Asks, wr2Asks, wr4Asks, pendingAfter, validPending}
+use Rattle.rules.specs.Pending.{aLow, aHigh, lengthLow, lengthHigh, aTiming, bTiming, prescaler, bLow, bHigh, readMask, nothing, next, isPending, rest, wr0Asks, timingAsks, wr4Asks, pendingAfter, validPending}
 use Rattle.rules.specs.Validity.{valid, total, most64}
 use Rattle.rules.specs.Registers.{carriedOut, inMode, written}
 use Rattle.rules.specs.Readback.{registerByte, after, chosen, readByte}
@@ -61,8 +61,8 @@ pub record RefusalsExact : Type 0 where
 
 pub data Awaited : ℕ → Type 0 where
   byWR0 : (byte : ℕ) → byte < 256 → isWR0 byte ≡ true → Awaited (wr0Asks byte)
-  byWR1 : (byte : ℕ) → byte < 256 → isWR1 byte ≡ true → Awaited (wr1Asks byte)
-  byWR2 : (byte : ℕ) → byte < 256 → isWR2 byte ≡ true → Awaited (wr2Asks byte)
+  byWR1 : (byte : ℕ) → byte < 256 → isWR1 byte ≡ true → Awaited (timingAsks aTiming byte)
+  byWR2 : (byte : ℕ) → byte < 256 → isWR2 byte ≡ true → Awaited (timingAsks bTiming byte)
   byWR4 : (byte : ℕ) → byte < 256 → isWR4 byte ≡ true → Awaited (wr4Asks byte)
   byTiming : Awaited prescaler
   byMaskCommand : Awaited readMask
@@ -110,11 +110,11 @@ unfoldable pub distinct : List ℕ → Bool
 distinct [] = true
 distinct (p ∷ ps) = every (not (among p ps) ∷ distinct ps ∷ [])
 
--- the next parameter is this bit of the number, which is set, and none below it is
-pub record LowestBit (p : ℕ) : Type 0 where
+-- x is one of the first m bits of p, which is set, and none below it is
+pub record LowestBit (m p x : ℕ) : Type 0 where
   pub place : ℕ
-  pub few : place < 10
-  pub value : next p ≡ 2 ^ place
+  pub few : place < m
+  pub value : x ≡ 2 ^ place
   pub set : bit place p ≡ true
   pub first : (i : ℕ) → i < place → bit i p ≡ false
 
@@ -130,9 +130,11 @@ pub record PendingExact : Type 1 where
   pub valid : (p : ℕ) → Exactly (validPending p ≡ true) (Awaited p)
   -- bytes lead to each of them and to no other
   pub led : (p : ℕ) → Exactly (validPending p ≡ true) (LedTo p)
-  -- the next one is the lowest of the ten bits that is set; with none pending there is no next one
-  pub lowest : (p : ℕ) → validPending p ≡ true → (p ≡ nothing → ⊥) → LowestBit p
-  pub none : next nothing ≡ nothing
+  -- the next one of any number is the lowest of the ten bits that is set; there is none exactly where none of them is, and of
+  -- the valid numbers that is 0 alone
+  pub lowest : (p : ℕ) → (next p ≡ nothing → ⊥) → LowestBit 10 p (next p)
+  pub none : (p : ℕ) → Exactly (next p ≡ nothing) ((i : ℕ) → i < 10 → bit i p ≡ false)
+  pub empty : (p : ℕ) → validPending p ≡ true → next p ≡ nothing → p ≡ nothing
   -- what a byte does to the rest of the core leaves them alone, and so do a read and a clock
   pub alone : (byte : ℕ) (c : Core) → carriedOut byte c .pending ≡ c .pending
   pub aloneInRead : (c : Core) → readByte c .core .pending ≡ c .pending

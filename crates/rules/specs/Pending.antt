@@ -82,11 +82,9 @@ ask t parameter p = pick t (parameter + p) p
 abbrev pub wr0Asks : ℕ → ℕ
 wr0Asks byte = ask (bit 3 byte) aLow (ask (bit 4 byte) aHigh (ask (bit 5 byte) lengthLow (ask (bit 6 byte) lengthHigh nothing)))
 
-abbrev pub wr1Asks : ℕ → ℕ
-wr1Asks byte = ask (bit 6 byte) aTiming nothing
-
-abbrev pub wr2Asks : ℕ → ℕ
-wr2Asks byte = ask (bit 6 byte) bTiming nothing
+-- WR1 or WR2, for the timing of its port
+abbrev pub timingAsks : ℕ → ℕ → ℕ
+timingAsks timing byte = ask (bit 6 byte) timing nothing
 
 abbrev pub wr4Asks : ℕ → ℕ
 wr4Asks byte = ask (bit 2 byte) bLow (ask (bit 3 byte) bHigh nothing)
@@ -97,8 +95,8 @@ unfoldable pub asked : ℕ → ℕ → ℕ
 asked byte p =
     firstOf
     (eqb (selects byte) 0 ⇒ wr0Asks byte
-    ∷ eqb (selects byte) 1 ⇒ wr1Asks byte
-    ∷ eqb (selects byte) 2 ⇒ wr2Asks byte
+    ∷ eqb (selects byte) 1 ⇒ timingAsks aTiming byte
+    ∷ eqb (selects byte) 2 ⇒ timingAsks bTiming byte
     ∷ eqb (selects byte) 4 ⇒ wr4Asks byte
     ∷ eqb byte 0xBB ⇒ readMask
     ∷ [])

@@ -40,11 +40,8 @@ inFront t code q = pick t (codes code (q .first) (q .second) (q .third)) q
 abbrev pub wr0Sequence : ℕ → Sequence
 wr0Sequence byte = inFront (bit 3 byte) 1 (inFront (bit 4 byte) 2 (inFront (bit 5 byte) 3 (inFront (bit 6 byte) 4 empty)))
 
-abbrev pub wr1Sequence : ℕ → Sequence
-wr1Sequence byte = inFront (bit 6 byte) 5 empty
-
-abbrev pub wr2Sequence : ℕ → Sequence
-wr2Sequence byte = inFront (bit 6 byte) 6 empty
+abbrev pub timingSequence : ℕ → ℕ → Sequence
+timingSequence code byte = inFront (bit 6 byte) code empty
 
 abbrev pub wr4Sequence : ℕ → Sequence
 wr4Sequence byte = inFront (bit 2 byte) 8 (inFront (bit 3 byte) 9 empty)
@@ -54,8 +51,8 @@ unfoldable pub sequenceAsked : ℕ → Sequence → Sequence
 sequenceAsked byte q =
     firstOf
     (eqb (selects byte) 0 ⇒ wr0Sequence byte
-    ∷ eqb (selects byte) 1 ⇒ wr1Sequence byte
-    ∷ eqb (selects byte) 2 ⇒ wr2Sequence byte
+    ∷ eqb (selects byte) 1 ⇒ timingSequence 5 byte
+    ∷ eqb (selects byte) 2 ⇒ timingSequence 6 byte
     ∷ eqb (selects byte) 4 ⇒ wr4Sequence byte
     ∷ eqb byte 0xBB ⇒ codes 10 0 0 0
     ∷ [])

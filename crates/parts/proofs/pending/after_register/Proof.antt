@@ -18,19 +18,19 @@ returns : tie.Need-returns
 unfolding asked firstOf pick
 returns c = simp (c .before .if1 .taken, ← c .before .before .register-of .ensures, c .wr0-asks .ensures)
 
-wr1-asks-requires : tie.Need-wr1-asks-requires
-wr1-asks-requires c κs = search needs
+timing-asks-requires : tie.Need-timing-asks-requires
+timing-asks-requires c κs = search needs
 
 returns-2 : tie.Need-returns-2
 unfolding asked firstOf pick
-returns-2 c = simp (c .before .if2 .taken, ← c .before .before .before .register-of .ensures, c .wr1-asks .ensures)
+returns-2 c = simp (c .before .if2 .taken, ← c .before .before .before .register-of .ensures, c .timing-asks .ensures)
 
-wr2-asks-requires : tie.Need-wr2-asks-requires
-wr2-asks-requires c κs = search needs
+timing-asks-requires-2 : tie.Need-timing-asks-requires-2
+timing-asks-requires-2 c κs = search needs
 
 returns-3 : tie.Need-returns-3
 unfolding asked firstOf pick
-returns-3 c = simp (c .before .if3 .taken, ← c .before .before .before .before .register-of .ensures, c .wr2-asks .ensures)
+returns-3 c = simp (c .before .if3 .taken, ← c .before .before .before .before .register-of .ensures, c .timing-asks2 .ensures)
 
 wr4-asks-requires : tie.Need-wr4-asks-requires
 wr4-asks-requires c κs = search needs
@@ -56,9 +56,9 @@ after-register-spec =
     register-of-requires
     wr0-asks-requires
     returns
-    wr1-asks-requires
+    timing-asks-requires
     returns-2
-    wr2-asks-requires
+    timing-asks-requires-2
     returns-3
     wr4-asks-requires
     returns-4
