@@ -8,10 +8,13 @@
  * set, can hold something else, and no call answers for such a device: set a flag that comes from outside by `byte != 0`.
  * Every other field may hold anything that its type can hold.
  *
+ * Clocks are those of 28 MHz, whatever the processor's speed is. At 28 MHz a cycle of 4 takes 4 of them; at 14, 7 and
+ * 3.5 MHz it takes 2, 4 and 8 times as many.
+ *
  * Numbers in answers: 0 accepted. Refusals, the lowest that applies: 1 the device is not valid; 2 the port number's low
  * byte is neither 6B nor 0B (hex); 3 the device holds the bus; 4 the memory is not 65,536 bytes; 5 the latches are not
- * 65,536 bytes; 6 the clock counts would not fit 64 bits. A refused call changes nothing: the device comes back as it came,
- * and no byte of a buffer is written.
+ * 65,536 bytes; 6 the clock counts would not fit 64 bits; 7 the speed code is above 3. A refused call changes nothing: the
+ * device comes back as it came, and no byte of a buffer is written.
  */
 #ifndef ZXNDMA_H
 #define ZXNDMA_H
@@ -33,7 +36,7 @@ typedef struct zxndma_port {
     uint16_t pointer; /* address of the next byte */
     bool io;          /* the port is I/O; otherwise it is memory */
     uint8_t step;     /* 0 decrements the pointer, 1 increments it, any other value keeps it fixed */
-    uint8_t cycle;    /* cycle length in clocks; valid from 2 to 4 */
+    uint8_t cycle;    /* cycle length in clocks at 28 MHz; valid from 2 to 4 */
 } zxndma_port;
 
 /* The block that is transferred. */
@@ -43,12 +46,19 @@ typedef struct zxndma_block {
     bool zilog;       /* compatibility mode: Zilog, where a block is one byte longer than its length; otherwise zxn */
 } zxndma_block;
 
+/* The codes of the processor's speeds. A cycle takes 8, 4, 2 and 1 times the clocks that it takes at 28 MHz. */
+#define ZXNDMA_SPEED_3_5_MHZ 0
+#define ZXNDMA_SPEED_7_MHZ 1
+#define ZXNDMA_SPEED_14_MHZ 2
+#define ZXNDMA_SPEED_28_MHZ 3
+
 /* How the block is transferred. */
 typedef struct zxndma_control {
     bool forward;      /* from port A to port B; otherwise from B to A */
-    uint8_t prescaler; /* fixed time for each byte in units of 32 clocks; 0 is off */
+    uint8_t prescaler; /* least time for each byte in units of 32 clocks; 0 is off */
     bool burst;        /* burst mode; otherwise continuous */
     bool restart;      /* auto restart at the end of the block */
+    uint8_t speed;     /* the processor's speed, by its code above; valid from 0 to 3 */
 } zxndma_control;
 
 /* The two bits of the status byte that change. */
@@ -86,8 +96,8 @@ typedef struct zxndma_readback {
 /* The running transfer slot; in a valid device all 0 and continuous while no clock of one has elapsed. */
 typedef struct zxndma_slot {
     uint16_t elapsed; /* clocks elapsed, 0 to 8,159 */
-    uint16_t bus;     /* bus time in clocks, 4 to 8 */
-    uint16_t length;  /* length in clocks: the bus time, or a multiple of 32 up to 8,160 */
+    uint16_t bus;     /* bus time in clocks, 4 to 64 */
+    uint16_t length;  /* length in clocks: the bus time, or a multiple of 32 up to 8,160 that is not below it */
     bool burst;       /* the wait after the bus time is given to the processor */
 } zxndma_slot;
 
@@ -136,7 +146,13 @@ typedef struct zxndma_grant_answer {
     zxndma_device device; /* the device afterwards */
 } zxndma_grant_answer;
 
-/* A device as it is when power comes on. Never refused. */
+/* The answer to a call that sets the speed. */
+typedef struct zxndma_speed_answer {
+    uint8_t number;       /* 0 for accepted, else the refusal: 1 or 7 */
+    zxndma_device device; /* the device afterwards */
+} zxndma_speed_answer;
+
+/* A device as it is when power comes on: its speed is 28 MHz. Never refused. */
 zxndma_device zxndma_power_on(void);
 
 /* A byte is written to the DMA's port. The port number's low byte is 6B (zxn mode) or 0B (Zilog mode); the high byte is
@@ -151,6 +167,10 @@ zxndma_read_answer zxndma_read(zxndma_device device, uint16_t port);
  * overlap. A length other than ZXNDMA_BUFFER_LENGTH is refused with 4 or 5. */
 zxndma_grant_answer zxndma_grant(zxndma_device device, uint8_t *memory, size_t memory_length, uint8_t *latches,
                                  size_t latches_length, uint32_t clocks);
+
+/* The processor's speed is set, by its code. The bus may be held, and a slot may be running: it keeps its figures, and the
+ * slots after it go by the new speed. Nothing else changes the speed, Reset included. A code above 3 is refused with 7. */
+zxndma_speed_answer zxndma_set_speed(zxndma_device device, uint8_t code);
 
 /* The device is valid: no call refuses it with 1. */
 bool zxndma_valid(zxndma_device device);
@@ -183,7 +203,8 @@ ZXNDMA_FIELD(control, forward, 0, 1);
 ZXNDMA_FIELD(control, prescaler, 1, 1);
 ZXNDMA_FIELD(control, burst, 2, 1);
 ZXNDMA_FIELD(control, restart, 3, 1);
-ZXNDMA_SIZE(control, 4);
+ZXNDMA_FIELD(control, speed, 4, 1);
+ZXNDMA_SIZE(control, 5);
 ZXNDMA_FIELD(status, e, 0, 1);
 ZXNDMA_FIELD(status, t, 1, 1);
 ZXNDMA_SIZE(status, 2);
@@ -203,9 +224,9 @@ ZXNDMA_SIZE(clocks, 24);
 ZXNDMA_FIELD(core, a, 0, 8);
 ZXNDMA_FIELD(core, b, 8, 8);
 ZXNDMA_FIELD(core, block, 16, 12);
-ZXNDMA_FIELD(core, control, 28, 4);
-ZXNDMA_FIELD(core, status, 32, 2);
-ZXNDMA_FIELD(core, readback, 34, 3);
+ZXNDMA_FIELD(core, control, 28, 5);
+ZXNDMA_FIELD(core, status, 33, 2);
+ZXNDMA_FIELD(core, readback, 35, 3);
 ZXNDMA_FIELD(core, pending, 38, 2);
 ZXNDMA_FIELD(core, enabled, 40, 1);
 ZXNDMA_FIELD(core, slot, 42, 8);
@@ -223,6 +244,9 @@ ZXNDMA_SIZE(read_answer, 88);
 ZXNDMA_FIELD(grant_answer, number, 0, 1);
 ZXNDMA_FIELD(grant_answer, device, 8, 80);
 ZXNDMA_SIZE(grant_answer, 88);
+ZXNDMA_FIELD(speed_answer, number, 0, 1);
+ZXNDMA_FIELD(speed_answer, device, 8, 80);
+ZXNDMA_SIZE(speed_answer, 88);
 
 #undef ZXNDMA_SIZE
 #undef ZXNDMA_FIELD

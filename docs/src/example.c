@@ -1,7 +1,7 @@
 /* A program: embeds the zxnDMA in C, as an example to start from.
  *
- * It copies four bytes from 1000 to 2000 and reads the registers back. docs/src/example.rs does the same in Rust;
- * docs/src/run-examples builds both. */
+ * It copies four bytes from 1000 to 2000 and reads the registers back; then it copies them at another speed.
+ * docs/src/example.rs does the same in Rust; docs/src/run-examples builds both. */
 #include <inttypes.h>
 #include <stdio.h>
 #include <stdlib.h>
@@ -11,9 +11,9 @@
 
 static const char help[] =
     "usage: example\n"
-    "Copies four bytes by the zxnDMA and reads its registers back: an example of a\n"
-    "program with the library target/staticlib/libhost.a linked in. It prints a\n"
-    "refusal, the clock counts, the bytes copied and the registers: example.out.\n"
+    "Copies four bytes by the zxnDMA and reads its registers back, then copies them\n"
+    "at 3.5 MHz: an example of a program with the library target/staticlib/libhost.a\n"
+    "linked in. It prints refusals, clock counts, bytes and registers: example.out.\n"
     "Exit status: 0 done; 1 a call was refused that should not be; 2 bad arguments.\n";
 
 /* The DMA's port in zxn mode. */
@@ -30,6 +30,11 @@ static const uint8_t program[] = {
     0x87,                          /* Enable */
 };
 
+static const uint8_t again[] = {
+    0xCF,                          /* Load */
+    0x87,                          /* Enable */
+};
+
 static uint8_t memory[ZXNDMA_BUFFER_LENGTH];
 static uint8_t latches[ZXNDMA_BUFFER_LENGTH];
 
@@ -40,6 +45,33 @@ static void accepted(const char *call, uint8_t number)
         fprintf(stderr, "%s: refused with %d\n", call, number);
         exit(1);
     }
+}
+
+/* Writes these bytes to the DMA's port. */
+static zxndma_device send(zxndma_device device, const uint8_t *bytes, size_t count)
+{
+    size_t k;
+
+    for (k = 0; k < count; k++) {
+        zxndma_write_answer written = zxndma_write(device, PORT, bytes[k]);
+        accepted("write", written.number);
+        device = written.device;
+    }
+    return device;
+}
+
+/* Lets so many clocks pass. */
+static zxndma_device pass(zxndma_device device, uint32_t clocks)
+{
+    zxndma_grant_answer granted = zxndma_grant(device, memory, sizeof memory, latches, sizeof latches, clocks);
+
+    accepted("grant", granted.number);
+    return granted.device;
+}
+
+static void print_clocks(const char *title, zxndma_clocks clocks)
+{
+    printf("%s bus %" PRIu64 ", held %" PRIu64 ", CPU %" PRIu64 "\n", title, clocks.bus, clocks.held, clocks.cpu);
 }
 
 static void print_bytes(const char *title, const uint8_t *bytes, size_t count)
@@ -57,27 +89,19 @@ static void run(void)
     static const uint8_t source[] = {0x11, 0x22, 0x33, 0x44};
     zxndma_device device = zxndma_power_on();
     zxndma_write_answer refused;
-    zxndma_grant_answer granted;
+    zxndma_speed_answer set;
     uint8_t registers[7];
     size_t k;
 
     memcpy(memory + 0x1000, source, sizeof source);
-
-    for (k = 0; k < sizeof program; k++) {
-        zxndma_write_answer written = zxndma_write(device, PORT, program[k]);
-        accepted("write", written.number);
-        device = written.device;
-    }
+    device = send(device, program, sizeof program);
 
     /* The enabled device holds the bus: a write is refused and changes nothing. */
     refused = zxndma_write(device, PORT, 0x83);
     printf("write while the bus is held: refused with %d\n", refused.number);
 
-    granted = zxndma_grant(device, memory, sizeof memory, latches, sizeof latches, 16);
-    accepted("grant", granted.number);
-    device = granted.device;
-    printf("clocks: bus %" PRIu64 ", held %" PRIu64 ", CPU %" PRIu64 "\n", device.clocks.bus, device.clocks.held,
-           device.clocks.cpu);
+    device = pass(device, 16);
+    print_clocks("clocks:", device.clocks);
     print_bytes("memory at 2000:", memory + 0x2000, sizeof source);
 
     for (k = 0; k < sizeof registers; k++) {
@@ -87,6 +111,16 @@ static void run(void)
         device = given.device;
     }
     print_bytes("registers:", registers, sizeof registers);
+
+    /* There are four speeds, with the codes 0 to 3. */
+    set = zxndma_set_speed(device, 4);
+    printf("speed code 4: refused with %d\n", set.number);
+
+    /* The same four bytes at 3.5 MHz take eight times the clocks. */
+    set = zxndma_set_speed(device, ZXNDMA_SPEED_3_5_MHZ);
+    accepted("set_speed", set.number);
+    device = pass(send(set.device, again, sizeof again), 8 * 16);
+    print_clocks("clocks, with the same at 3.5 MHz:", device.clocks);
     printf("valid: %s\n", zxndma_valid(device) ? "yes" : "no");
 }
 

@@ -1,7 +1,8 @@
 //! A program: embeds the zxnDMA in Rust, as an example to start from.
 //!
-//! It copies four bytes from 1000 to 2000 and reads the registers back.
-//! docs/src/example.c does the same in C; docs/src/run-examples builds both.
+//! It copies four bytes from 1000 to 2000 and reads the registers back; then it
+//! copies them at another speed. docs/src/example.c does the same in C;
+//! docs/src/run-examples builds both.
 
 #![deny(unsafe_code)]
 
@@ -9,13 +10,13 @@
 mod zxndma;
 
 use std::process::exit;
-use zxndma::{Device, BUFFER_LENGTH};
+use zxndma::{speed, Clocks, Device, BUFFER_LENGTH};
 
 const HELP: &str = "\
 usage: example
-Copies four bytes by the zxnDMA and reads its registers back: an example of a
-program with the library target/staticlib/libhost.a linked in. It prints a
-refusal, the clock counts, the bytes copied and the registers: example.out.
+Copies four bytes by the zxnDMA and reads its registers back, then copies them
+at 3.5 MHz: an example of a program with the library target/staticlib/libhost.a
+linked in. It prints refusals, clock counts, bytes and registers: example.out.
 Exit status: 0 done; 1 a call was refused that should not be; 2 bad arguments.
 ";
 
@@ -33,12 +34,38 @@ const PROGRAM: [u8; 16] = [
     0x87, // Enable
 ];
 
+const AGAIN: [u8; 2] = [
+    0xCF, // Load
+    0x87, // Enable
+];
+
 /// This program expects no refusal.
 fn accepted(call: &str, number: u8) {
     if number != 0 {
         eprintln!("{}: refused with {}", call, number);
         exit(1);
     }
+}
+
+/// Writes these bytes to the DMA's port.
+fn send(mut device: Device, bytes: &[u8]) -> Device {
+    for &byte in bytes {
+        let written = device.write(PORT, byte);
+        accepted("write", written.number);
+        device = written.device;
+    }
+    device
+}
+
+/// Lets so many clocks pass.
+fn pass(device: Device, memory: &mut [u8], latches: &mut [u8], clocks: u32) -> Device {
+    let granted = device.grant(memory, latches, clocks);
+    accepted("grant", granted.number);
+    granted.device
+}
+
+fn print_clocks(title: &str, clocks: Clocks) {
+    println!("{} bus {}, held {}, CPU {}", title, clocks.bus, clocks.held, clocks.cpu);
 }
 
 fn print_bytes(title: &str, bytes: &[u8]) {
@@ -65,22 +92,14 @@ fn run() {
     let mut latches = vec![0; BUFFER_LENGTH];
     memory[0x1000..0x1004].copy_from_slice(&[0x11, 0x22, 0x33, 0x44]);
 
-    let mut device = Device::power_on();
-    for byte in PROGRAM {
-        let written = device.write(PORT, byte);
-        accepted("write", written.number);
-        device = written.device;
-    }
+    let mut device = send(Device::power_on(), &PROGRAM);
 
     // The enabled device holds the bus: a write is refused and changes nothing.
     let refused = device.write(PORT, 0x83);
     println!("write while the bus is held: refused with {}", refused.number);
 
-    let granted = device.grant(&mut memory, &mut latches, 16);
-    accepted("grant", granted.number);
-    device = granted.device;
-    let clocks = device.clocks;
-    println!("clocks: bus {}, held {}, CPU {}", clocks.bus, clocks.held, clocks.cpu);
+    device = pass(device, &mut memory, &mut latches, 16);
+    print_clocks("clocks:", device.clocks);
     print_bytes("memory at 2000:", &memory[0x2000..0x2004]);
 
     let mut registers = [0; 7];
@@ -91,5 +110,15 @@ fn run() {
         device = given.device;
     }
     print_bytes("registers:", &registers);
+
+    // There are four speeds, with the codes 0 to 3.
+    let refused = device.set_speed(4);
+    println!("speed code 4: refused with {}", refused.number);
+
+    // The same four bytes at 3.5 MHz take eight times the clocks.
+    let set = device.set_speed(speed::MHZ_3_5);
+    accepted("set_speed", set.number);
+    device = pass(send(set.device, &AGAIN), &mut memory, &mut latches, 8 * 16);
+    print_clocks("clocks, with the same at 3.5 MHz:", device.clocks);
     println!("valid: {}", if device.is_valid() { "yes" } else { "no" });
 }

@@ -2,7 +2,8 @@
 //!
 //! How the device and its answers lie in memory: every struct by its size and
 //! every field by its name, type, place in the order, offset and size. And the
-//! bits of the pending parameters, by their names in C and Rust.
+//! bits of the pending parameters and the codes of the speeds, by their names in
+//! C and Rust.
 //!
 //! Rattle: the declarations are read, and laid out as `repr(C)` says.
 //! C: the declarations are read, and the offsets and sizes that the header
@@ -29,7 +30,8 @@ const HELP: &str = "\
 usage: layout HEADER RATTLE...
 Compares the structs of the C header, of the Rattle sources and of the wrapper
 for Rust, and prints how many structs and fields there are, or what differs. In
-the header and the wrapper it also compares the bits of the pending parameters.
+the header and the wrapper it also compares the bits of the pending parameters
+and the codes of the speeds.
 
   HEADER  include/zxndma.h
   RATTLE  sources with structs, in the order of their crates, the device's last:
@@ -258,7 +260,7 @@ fn rust_layout() -> Layout {
     let core = device.core;
     struct_of!(layout, core.a, Port { address, pointer, io, step, cycle });
     struct_of!(layout, core.block, Block { length, counter, zilog });
-    struct_of!(layout, core.control, Control { forward, prescaler, burst, restart });
+    struct_of!(layout, core.control, Control { forward, prescaler, burst, restart, speed });
     struct_of!(layout, core.status, Status { e, t });
     struct_of!(layout, core.readback, Readback { mask, position, waiting });
     struct_of!(layout, core.slot, Slot { elapsed, bus, length, burst });
@@ -272,21 +274,47 @@ fn rust_layout() -> Layout {
     struct_of!(layout, device.write(0, 0), WriteAnswer { number, device });
     struct_of!(layout, device.read(0), ReadAnswer { number, byte, device });
     struct_of!(layout, device.grant(&mut [], &mut [], 0), GrantAnswer { number, device });
+    struct_of!(layout, device.set_speed(0), SpeedAnswer { number, device });
     layout
 }
 
-// ---- The bits of the pending parameters ----------------------------------
+// ---- The bits of the pending parameters, the codes of the speeds ---------
 
 /// Names and numbers, in their order.
-type Bits = Vec<(String, u16)>;
+type Names = Vec<(String, u16)>;
 
-/// The constants of the wrapper that are named.
-macro_rules! bits_of {
-    ($($name:ident),*) => { vec![$((stringify!($name).into(), zxndma::pending::$name)),*] };
+/// The constants of a module of the wrapper that are named.
+macro_rules! names_of {
+    ($module:ident: $($name:ident),*) => {
+        vec![$((stringify!($name).into(), zxndma::$module::$name.into())),*]
+    };
 }
 
-fn rust_bits() -> Bits {
-    bits_of!(
+/// The numbers that the header defines, under names that begin so; the rest of
+/// the name is kept.
+fn c_names(header: &str, begin: &str) -> Result<Names, String> {
+    let begin = format!("#define {}", begin);
+    let defined = header.lines().filter_map(|line| line.strip_prefix(&begin));
+    let named = |text: &str| {
+        let (name, number) = text.split_once(' ')?;
+        Some((name.into(), number.parse().ok()?))
+    };
+    defined.map(|text| named(text).ok_or(format!("not understood: {}", text))).collect()
+}
+
+/// Both have the same names, in the same order, and the numbers in this order.
+/// Gives how many.
+fn same_names(what: &str, c: Names, rust: Names, number: fn(u16) -> u16) -> Result<usize, String> {
+    let in_order = (0..).zip(&rust).all(|(place, (_, named))| *named == number(place));
+    if c != rust || !in_order {
+        return Err(format!("{} in C: {:?}\nin Rust: {:?}", what, c, rust));
+    }
+    Ok(rust.len())
+}
+
+/// Each is the bit after the one before it, from bit 0 on.
+fn same_bits(header: &str) -> Result<usize, String> {
+    let rust = names_of!(pending:
         A_ADDRESS_LOW,
         A_ADDRESS_HIGH,
         LENGTH_LOW,
@@ -297,26 +325,20 @@ fn rust_bits() -> Bits {
         B_ADDRESS_LOW,
         B_ADDRESS_HIGH,
         READ_MASK
-    )
+    );
+    same_names("pending parameters", c_names(header, "ZXNDMA_PENDING_")?, rust, |place| 1 << place)
 }
 
-fn c_bits(header: &str) -> Result<Bits, String> {
-    let defined = header.lines().filter_map(|line| line.strip_prefix("#define ZXNDMA_PENDING_"));
-    let bit = |text: &str| {
-        let (name, number) = text.split_once(' ')?;
-        Some((name.into(), number.parse().ok()?))
+/// Each is one more than the one before it, from 0 on. What C calls `7_MHZ` is
+/// `MHZ_7` in Rust, where no name begins with a digit.
+fn same_codes(header: &str) -> Result<usize, String> {
+    let rust = names_of!(speed: MHZ_3_5, MHZ_7, MHZ_14, MHZ_28);
+    let turned = |(name, code): (String, u16)| match name.strip_suffix("_MHZ") {
+        Some(megahertz) => (format!("MHZ_{}", megahertz), code),
+        None => (name, code),
     };
-    defined.map(|text| bit(text).ok_or(format!("not understood: {}", text))).collect()
-}
-
-/// Each is the bit after the one before it, from bit 0 on, and has one name.
-fn same_bits(header: &str) -> Result<usize, String> {
-    let (c, rust) = (c_bits(header)?, rust_bits());
-    let in_order = (0..).zip(&rust).all(|(place, (_, number))| *number == 1 << place);
-    if c != rust || !in_order {
-        return Err(format!("pending parameters in C: {:?}\nin Rust: {:?}", c, rust));
-    }
-    Ok(rust.len())
+    let c = c_names(header, "ZXNDMA_SPEED_")?.into_iter().map(turned).collect();
+    same_names("speeds", c, rust, |place| place)
 }
 
 // ---- Comparing -----------------------------------------------------------
@@ -348,13 +370,14 @@ fn compare(header: &str, sources: &[&str]) -> Result<String, String> {
         return Err(lines.join("\n"));
     }
     let fields: usize = rattle.values().map(|laid| laid.fields.len()).sum();
-    let bits = same_bits(&header)?;
+    let (bits, codes) = (same_bits(&header)?, same_codes(&header)?);
     Ok(format!(
-        "{} structs, {} fields: the same in Rattle, C and Rust; {} bits of pending parameters: \
-         the same in C and Rust",
+        "{} structs, {} fields: the same in Rattle, C and Rust; {} bits of pending parameters, \
+         {} codes of speeds: the same in C and Rust",
         rattle.len(),
         fields,
-        bits
+        bits,
+        codes
     ))
 }
 

@@ -190,6 +190,7 @@ fn continuous_or_burst(core: &Core) -> &'static str {
     }
 }
 
+/// A session cannot set the speed: at 28 MHz no bus time is as long as this.
 fn prescaler(core: &Core) -> String {
     match core.control.prescaler {
         0 => "off".to_string(),

@@ -7,6 +7,10 @@
 //! answer. Any content is a device; calls refuse one that is not valid. A
 //! refused call changes nothing: the device comes back as it came, and no
 //! byte of a buffer is written.
+//!
+//! Clocks are those of 28 MHz, whatever the processor's speed is. At 28 MHz a
+//! cycle of 4 takes 4 of them; at 14, 7 and 3.5 MHz it takes 2, 4 and 8 times
+//! as many.
 
 // A program may use a part of it.
 #![allow(dead_code)]
@@ -29,7 +33,7 @@ pub struct Port {
     /// 0 decrements the pointer, 1 increments it, any other value keeps it
     /// fixed.
     pub step: u8,
-    /// Cycle length in clocks; valid from 2 to 4.
+    /// Cycle length in clocks at 28 MHz; valid from 2 to 4.
     pub cycle: u8,
 }
 
@@ -53,12 +57,24 @@ pub struct Block {
 pub struct Control {
     /// From port A to port B; otherwise from B to A.
     pub forward: bool,
-    /// Fixed time for each byte in units of 32 clocks; 0 is off.
+    /// Least time for each byte in units of 32 clocks; 0 is off.
     pub prescaler: u8,
     /// Burst mode; otherwise continuous.
     pub burst: bool,
     /// Auto restart at the end of the block.
     pub restart: bool,
+    /// The processor's speed by its code, as `speed` names them; valid from 0
+    /// to 3.
+    pub speed: u8,
+}
+
+/// The codes of the processor's speeds.
+pub mod speed {
+    // A cycle takes 8, 4, 2 and 1 times the clocks that it takes at 28 MHz.
+    pub const MHZ_3_5: u8 = 0;
+    pub const MHZ_7: u8 = 1;
+    pub const MHZ_14: u8 = 2;
+    pub const MHZ_28: u8 = 3;
 }
 
 /// The two bits of the status byte that change.
@@ -129,9 +145,10 @@ pub mod pending {
 pub struct Slot {
     /// Clocks elapsed, 0 to 8,159.
     pub elapsed: u16,
-    /// Bus time in clocks, 4 to 8.
+    /// Bus time in clocks, 4 to 64.
     pub bus: u16,
-    /// Length in clocks: the bus time, or a multiple of 32 up to 8,160.
+    /// Length in clocks: the bus time, or a multiple of 32 up to 8,160 that is
+    /// not below it.
     pub length: u16,
     /// The wait after the bus time is given to the processor.
     pub burst: bool,
@@ -209,6 +226,16 @@ pub struct GrantAnswer {
     pub device: Device,
 }
 
+/// The answer to a call that sets the speed.
+#[repr(C)]
+#[derive(Clone, Copy, PartialEq, Eq, Debug)]
+pub struct SpeedAnswer {
+    /// 0 for accepted, else the refusal number: 1 or 7.
+    pub number: u8,
+    /// The device afterwards.
+    pub device: Device,
+}
+
 // Edition 2024 wants the word `unsafe` on a block of foreign functions, and
 // compilers before 1.82 don't know it there. `_` is an `expr` from edition
 // 2024 on, so that the first pattern fits there and the second one elsewhere.
@@ -235,6 +262,7 @@ library! { (_)
         latches_length: usize,
         clocks: u32,
     ) -> GrantAnswer;
+    fn zxndma_set_speed(device: Device, code: u8) -> SpeedAnswer;
     fn zxndma_valid(device: Device) -> bool;
 }
 
@@ -242,7 +270,7 @@ library! { (_)
 // answer any device, they keep nothing of what they are given, and the gate
 // compares the layout of the structs above with the library's.
 impl Device {
-    /// A device as it is when power comes on.
+    /// A device as it is when power comes on: its speed is 28 MHz.
     pub fn power_on() -> Device {
         // SAFETY: plain data comes back, and every flag in it is 0 or 1.
         unsafe { zxndma_power_on() }
@@ -271,6 +299,15 @@ impl Device {
         // and to that many bytes; both are borrowed mutably until the call is
         // over, so nothing else reaches them and they do not overlap.
         unsafe { zxndma_grant(self, memory, memory_length, latches, latches_length, clocks) }
+    }
+
+    /// The processor's speed is set, by its code. The bus may be held, and a
+    /// slot may be running: it keeps its figures, and the slots after it go by
+    /// the new speed. Nothing else changes the speed, Reset included. Refused
+    /// with 7 if the code is above 3, and with 1.
+    pub fn set_speed(self, code: u8) -> SpeedAnswer {
+        // SAFETY: as for a write.
+        unsafe { zxndma_set_speed(self, code) }
     }
 
     /// The device is valid: no call refuses it with 1.
