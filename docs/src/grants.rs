@@ -50,7 +50,8 @@ impl Grant {
     fn clocks_of_slots(&self) -> u64 {
         let running = self.before.slot;
         let whole = self.moved - u64::from(running.elapsed < running.bus);
-        u64::from(running.length - running.elapsed) + whole * u64::from(slot(&self.before))
+        let length = u64::from(model::slot_length(&self.before));
+        u64::from(running.length - running.elapsed) + whole * length
     }
 }
 
@@ -60,7 +61,7 @@ fn moved(before: &Device, after: &Device) -> u64 {
     let clocks = after.clocks.bus - before.clocks.bus;
     let rest = u64::from(before.slot.bus.saturating_sub(before.slot.elapsed));
     match clocks.checked_sub(rest) {
-        Some(further) => u64::from(rest > 0) + further / u64::from(bus_time(before)),
+        Some(further) => u64::from(rest > 0) + further / u64::from(model::bus_time(before)),
         None => 0,
     }
 }
@@ -76,19 +77,6 @@ fn restarts(before: &Device, after: &Device, moved: u64) -> u64 {
     }
 }
 
-/// The bus time of the slots to come.
-pub fn bus_time(device: &Device) -> u32 {
-    u32::from(device.a.cycle) + u32::from(device.b.cycle)
-}
-
-/// The length of the slots to come.
-pub fn slot(device: &Device) -> u32 {
-    match device.prescaler {
-        0 => bus_time(device),
-        prescaler => 32 * u32::from(prescaler),
-    }
-}
-
 /// Down, not at all, up.
 fn direction(port: &Port) -> i64 {
     match port.step {
@@ -100,7 +88,7 @@ fn direction(port: &Port) -> i64 {
 
 /// Where in a slot a device is: in the bus time, in a held wait or in a burst
 /// wait, or between slots.
-fn place(device: &Device) -> usize {
+pub fn place(device: &Device) -> usize {
     let slot = device.slot;
     match slot.elapsed {
         0 => 3,
@@ -140,6 +128,7 @@ const OF_DEVICES: &[Question] = &[
     ("clock counts full", &["100 bytes", "2 restarts", "disabled"], counts_full),
     ("100 bytes, a count passes 32 bits", &["bus", "held", "CPU"], passes_32_bits),
     ("1,000,000 clocks", &["enabled", "disabled"], million_clocks),
+    ("100 bytes, speed code", &["0", "1", "2", "3"], speed),
 ];
 
 fn bytes(grant: &Grant) -> Option<usize> {
@@ -159,16 +148,16 @@ fn begins(grant: &Grant) -> Option<usize> {
     (grant.moved > 1).then(|| place(&grant.before))
 }
 
-/// A write in a wait may have changed the registers, after which the running
-/// slot keeps its figures.
+/// A write in a wait may have changed the registers, or a call the speed; the
+/// running slot keeps its figures.
 fn differs(grant: &Grant) -> Option<usize> {
     let (running, registers) = (grant.before.slot, &grant.before);
     if running.elapsed == 0 || !grant.is_long() {
         return None;
     }
     let different = [
-        u32::from(running.bus) != bus_time(registers),
-        u32::from(running.length) != slot(registers),
+        running.bus != model::bus_time(registers),
+        running.length != model::slot_length(registers),
         running.burst != registers.burst,
     ];
     different.iter().position(|&different| different)
@@ -246,6 +235,10 @@ fn passes_32_bits(grant: &Grant) -> Option<usize> {
 
 fn million_clocks(grant: &Grant) -> Option<usize> {
     (grant.clocks >= 1_000_000).then_some(usize::from(!grant.before.enabled))
+}
+
+fn speed(grant: &Grant) -> Option<usize> {
+    grant.is_long().then_some(usize::from(grant.before.speed))
 }
 
 // ---- All grants ----------------------------------------------------------

@@ -2,7 +2,7 @@
 //!
 //! It takes every clock singly. It shares nothing with the product but the
 //! papers, so that the two can be compared. "01" below is the paper with the
-//! rules.
+//! rules, "02" the one with the requests that came after it.
 //!
 //! Built alone it is a bench program: a session on standard input, its lines
 //! on standard output. Another program can also include it as a module.
@@ -13,7 +13,7 @@
 use std::io::{Read, Write};
 use std::process::ExitCode;
 
-/// The device and its four calls.
+/// The device and its five calls.
 pub mod model {
     /// The bytes of memory, and of latches, that a grant must be lent.
     pub const SIZE: usize = 65_536;
@@ -48,7 +48,7 @@ pub mod model {
         pub io: bool,
         /// 0 decrement, 1 increment, anything else fixed.
         pub step: u8,
-        /// The cycle in clocks.
+        /// The cycle in clocks, at 28 MHz.
         pub cycle: u8,
     }
 
@@ -87,6 +87,8 @@ pub mod model {
         pub prescaler: u8,
         pub burst: bool,
         pub auto_restart: bool,
+        /// The code of the processor's speed: 0 to 3.
+        pub speed: u8,
         /// The compatibility mode: true is Zilog, false is zxn.
         pub zilog: bool,
         pub enabled: bool,
@@ -176,7 +178,7 @@ pub mod model {
 
     // ---- Power-on and soundness ------------------------------------------
 
-    /// 01: Power-on.
+    /// 01: Power-on. 02: it is code 3.
     pub fn power_on() -> Device {
         let port = Port { address: 0, pointer: 0, io: false, step: INCREMENT, cycle: 4 };
         Device {
@@ -190,6 +192,7 @@ pub mod model {
             prescaler: 0,
             burst: false,
             auto_restart: false,
+            speed: 3,
             zilog: false,
             enabled: false,
             e: true,
@@ -201,7 +204,7 @@ pub mod model {
         }
     }
 
-    /// 01: "Sound means".
+    /// 01: "Sound means". 02: "Soundness takes the new ranges".
     pub fn valid(d: &Device) -> bool {
         // Cycles 2 to 4.
         let cycles = (2..=4).contains(&d.a.cycle) && (2..=4).contains(&d.b.cycle);
@@ -209,6 +212,8 @@ pub mod model {
         let counter = d.counter <= 65_536;
         let mask = d.mask <= 127;
         let place = d.place <= 6;
+        // Code 0 to 3.
+        let speed = d.speed <= 3;
         // The books' sum in 64 bits.
         let books = books_sum(d) <= u128::from(u64::MAX);
         // Awaited parameters are a tail of a sequence in the table.
@@ -220,10 +225,12 @@ pub mod model {
         // Disabled means no clock of a slot is spent.
         let idle = d.enabled || s.elapsed == 0;
         let slot = if s.elapsed > 0 {
-            // With clocks spent: bus time 4 to 8, slot equal to it or a
-            // multiple of 32 from 32 to 8,160, spent below the slot.
-            (4..=8).contains(&s.bus)
-                && (s.length == s.bus || (s.length % 32 == 0 && (32..=8_160).contains(&s.length)))
+            // With clocks spent: bus time 4 to 64, slot equal to it or a
+            // multiple of 32 from 32 to 8,160 that is not below it, spent below
+            // the slot.
+            let multiple = s.length % 32 == 0 && (32..=8_160).contains(&s.length);
+            (4..=64).contains(&s.bus)
+                && (s.length == s.bus || (multiple && s.length >= s.bus))
                 && s.elapsed < s.length
         } else {
             // With none, the fixed slot figures are 0 and continuous.
@@ -232,7 +239,8 @@ pub mod model {
         // Enabled with the byte not yet moved means counter below block count.
         let not_moved = s.elapsed == 0 || s.elapsed < s.bus;
         let block = !(d.enabled && not_moved) || d.counter < block_count(d);
-        cycles && counter && mask && place && books && parameters && idle && slot && block
+        let numbers = cycles && counter && mask && place && speed && books;
+        numbers && parameters && idle && slot && block
     }
 
     /// A tail of a sequence in the table: some of WR0's four in their order,
@@ -273,6 +281,48 @@ pub mod model {
         let s = &d.slot;
         let burst_wait = s.burst && s.elapsed >= s.bus && s.elapsed < s.length;
         d.enabled && !burst_wait
+    }
+
+    // ---- Speed -----------------------------------------------------------
+
+    /// 02: the host sets the speed, at any time; gives the number. The slots
+    /// that begin from now on go by it. One that is running keeps its figures.
+    pub fn set_speed(d: &mut Device, code: u8) -> u8 {
+        if !valid(d) {
+            return 1;
+        }
+        if code > 3 {
+            return 7;
+        }
+        d.speed = code;
+        0
+    }
+
+    /// 02: the clocks that a cycle takes for each one that it takes at 28 MHz.
+    pub fn factor(d: &Device) -> u16 {
+        match d.speed {
+            0 => 8, // 3.5 MHz
+            1 => 4, // 7 MHz
+            2 => 2, // 14 MHz
+            3 => 1, // 28 MHz
+            code => panic!("no sound state has the speed code {}", code),
+        }
+    }
+
+    /// 02: the bus time of a slot that begins now: factor x (A + B).
+    pub fn bus_time(d: &Device) -> u16 {
+        factor(d) * (u16::from(d.a.cycle) + u16::from(d.b.cycle))
+    }
+
+    /// 02: the length of a slot that begins now: the bus time, or with a
+    /// prescaler the larger of bus time and 32 x prescaler.
+    pub fn slot_length(d: &Device) -> u16 {
+        let fixed_time = 32 * u16::from(d.prescaler);
+        if d.prescaler == 0 || fixed_time < bus_time(d) {
+            bus_time(d)
+        } else {
+            fixed_time
+        }
     }
 
     // ---- Port writes -----------------------------------------------------
@@ -454,7 +504,7 @@ pub mod model {
         }
     }
 
-    /// C3.
+    /// C3. 02: it leaves the speed.
     fn reset(d: &mut Device) {
         disable(d);
         d.a.cycle = 4;
@@ -588,11 +638,8 @@ pub mod model {
             );
             // A slot's first clock fixes the bus time, the length, and burst
             // or continuous.
-            d.slot.bus = u16::from(d.a.cycle) + u16::from(d.b.cycle);
-            d.slot.length = match d.prescaler {
-                0 => d.slot.bus,
-                prescaler => 32 * u16::from(prescaler),
-            };
+            d.slot.bus = bus_time(d);
+            d.slot.length = slot_length(d);
             d.slot.burst = d.burst;
         }
         d.slot.elapsed += 1;

@@ -1,13 +1,14 @@
 //! A program: compares the linked library with the second program, call by call.
 //!
-//! On devices of any content, with any port, byte, clocks and buffers, and on
-//! sessions. Every answer is compared whole: number, byte, each field of the
-//! device, and after a grant both buffers, in a session after every record.
-//! The sessions of a seed are those that `compare.rs` makes of it. What the
-//! grants and the writes in burst waits came to is counted, and so are the
-//! numbers of pending parameters that came. It also tries all 65,536, and
-//! sees that the second program stops where a slot would begin with its block
-//! finished.
+//! On devices of any content, with any port, byte, clocks, buffers and speed
+//! code, on sessions, and on lists of calls from power on that set the speed as
+//! well. Every answer is compared whole: number, byte, each field of the device,
+//! and after a grant both buffers, in a session after every record. The sessions
+//! of a seed are those that `compare.rs` makes of it. What the grants, the writes
+//! in burst waits and the speed calls came to is counted, and so are the numbers
+//! of pending parameters that came. It also tries all 65,536 of these, all codes
+//! of the speed and a slot's figures about all that are valid, and sees that the
+//! second program stops where a slot would begin with its block finished.
 //!
 //! Built by `rustc --edition 2021 -O -L native=target/staticlib states.rs`,
 //! from this folder or with its path; `states --help` says how it is run.
@@ -26,6 +27,8 @@ mod program;
 mod questions;
 #[path = "reference.rs"]
 mod reference;
+#[path = "speeds.rs"]
+mod speeds;
 #[path = "stops.rs"]
 mod stops;
 #[path = "stored.rs"]
@@ -40,6 +43,7 @@ use grants::{Grant, Grants};
 use numbers::Numbers;
 use reference::model::{self, Pending, SIZE};
 use reference::session;
+use speeds::Speeds;
 use std::collections::BTreeSet;
 use std::process::ExitCode;
 use waits::Waits;
@@ -48,24 +52,32 @@ use zxndma::{Block, Clocks, Control, Core, Device, Port, Readback, Slot, Status}
 /// For each seed, if nothing else is asked for.
 const CALLS: u64 = 1_000_000;
 const SESSIONS: u64 = 5_000;
+const LISTS: u64 = 2_000;
 
 const HELP: &str = "\
-usage: states [--calls N] [--sessions N] [--seed N]... [FILE.hex]...
+usage: states [--calls N] [--sessions N] [--lists N] [--seed N]... [FILE.hex]...
 Compares the linked library with the second program, for each seed (1) by N calls
-on made devices (1000000) and N made sessions (5000), and on the stored sessions.
-Prints how often each number was answered, what the grants and the writes in
-burst waits came to, and how many numbers of pending parameters came. For each
-seed it tries all 65536 of these on devices that are valid otherwise: a write, a
-read and a grant must answer 1 exactly where the number stands for no sequence;
-each byte is written to a device with each other number. Sees, too, that the calls refuse a
-device whose slot would begin with the block finished, and that a clock of it
-stops the second program.
+on made devices (1000000), N made sessions (5000) and N lists of calls from power
+on that set the speed as well (2000), and on the stored sessions. Prints how often
+each number was answered, what the grants, the writes in burst waits and the speed
+calls came to, and how many numbers of pending parameters came.
+
+For each seed it tries, on devices that are valid otherwise:
+- all 65536 numbers of pending parameters: a call must answer 1 exactly where the
+  number stands for no sequence; each byte is written to a device with each other
+  number;
+- each speed code in a device with each: the answer must be 1 where the device's
+  is above 3, else 7 where the call's is, else 0;
+- bus times up to 70 with lengths up to 8300 in a running slot: as many as the
+  rules allow must be valid.
+Sees, too, that the calls refuse a device whose slot would begin with the block
+finished, and that a clock of it stops the second program.
 
 Exit status: 0 no difference; 1 a difference, or the second program stops in a
 call or doesn't where it should, which is shown, or a number that a call can
-answer never came, or, with as many calls or sessions as these, some case of a
-long grant or of a write in a wait, or a number of pending parameters, or a FILE
-can't be read; 2 bad arguments.
+answer never came, or, with as many calls, sessions or lists as these, some case
+of a long grant, of a write in a wait or of a speed call, or a number of pending
+parameters, or a FILE can't be read; 2 bad arguments.
 ";
 
 // ---- Both sides ----------------------------------------------------------
@@ -76,7 +88,7 @@ fn model_of(device: Device) -> model::Device {
     let Device { core, clocks: Clocks { bus, held, cpu } } = device;
     let Core { a, b, block, control, status, readback, pending, enabled, slot } = core;
     let Block { length, counter, zilog } = block;
-    let Control { forward, prescaler, burst, restart } = control;
+    let Control { forward, prescaler, burst, restart, speed } = control;
     let Status { e, t } = status;
     let Readback { mask, position, waiting } = readback;
     model::Device {
@@ -90,6 +102,7 @@ fn model_of(device: Device) -> model::Device {
         prescaler,
         burst,
         auto_restart: restart,
+        speed,
         zilog,
         enabled,
         e,
@@ -128,6 +141,9 @@ enum Call {
         latches: usize,
         clocks: u32,
     },
+    SetSpeed {
+        code: u8,
+    },
     /// Its number is 1 for valid.
     Valid,
 }
@@ -139,6 +155,17 @@ impl Call {
             Call::Write { port, byte } => Some(session::Call::Write { port, byte }),
             Call::Read { .. } => Some(session::Call::Read),
             Call::Grant { clocks, .. } => Some(session::Call::Grant { clocks }),
+            Call::PowerOn | Call::SetSpeed { .. } | Call::Valid => None,
+        }
+    }
+
+    /// As what speed calls came to is counted by.
+    fn about_speed(self) -> Option<speeds::Call> {
+        match self {
+            Call::Write { byte, .. } => Some(speeds::Call::Write { byte }),
+            Call::Read { .. } => Some(speeds::Call::Read),
+            Call::Grant { clocks, .. } => Some(speeds::Call::Grant { clocks }),
+            Call::SetSpeed { code } => Some(speeds::Call::SetSpeed { code }),
             Call::PowerOn | Call::Valid => None,
         }
     }
@@ -206,6 +233,10 @@ fn by_library(device: Device, call: Call, lent: &mut Buffers) -> (Answer, Device
                 device.grant(&mut lent.memory[..memory], &mut lent.latches[..latches], clocks);
             (granted.number, 0, granted.device)
         }
+        Call::SetSpeed { code } => {
+            let set = device.set_speed(code);
+            (set.number, 0, set.device)
+        }
         Call::Valid => (u8::from(device.is_valid()), 0, device),
     };
     let pending = device.core.pending;
@@ -225,6 +256,7 @@ fn by_model(device: Device, call: Call, lent: &mut Buffers) -> Answer {
             let (memory, latches) = (&mut lent.memory[..memory], &mut lent.latches[..latches]);
             (model::grant(&mut device, memory, latches, clocks), 0)
         }
+        Call::SetSpeed { code } => (model::set_speed(&mut device, code), 0),
         Call::Valid => (u8::from(model::valid(&device)), 0),
     };
     let pending = device.pending.number();
@@ -233,34 +265,40 @@ fn by_model(device: Device, call: Call, lent: &mut Buffers) -> Answer {
 
 // ---- Comparing -----------------------------------------------------------
 
+/// How often each number from 0 to 7 was answered.
+type Answered = [u64; 8];
+
 /// How often each number was answered, by the kind of call.
 #[derive(Default)]
 struct Counts {
-    power_on: [u64; 7],
-    write: [u64; 7],
-    read: [u64; 7],
-    grant: [u64; 7],
-    valid: [u64; 7],
+    power_on: Answered,
+    write: Answered,
+    read: Answered,
+    grant: Answered,
+    set_speed: Answered,
+    valid: Answered,
 }
 
 impl Counts {
-    fn of(&mut self, call: Call) -> &mut [u64; 7] {
+    fn of(&mut self, call: Call) -> &mut Answered {
         match call {
             Call::PowerOn => &mut self.power_on,
             Call::Write { .. } => &mut self.write,
             Call::Read { .. } => &mut self.read,
             Call::Grant { .. } => &mut self.grant,
+            Call::SetSpeed { .. } => &mut self.set_speed,
             Call::Valid => &mut self.valid,
         }
     }
 
     /// Each kind of call, with the numbers that it can answer.
-    fn kinds(&self) -> [(&'static str, &[u64; 7], &'static [usize]); 5] {
+    fn kinds(&self) -> [(&'static str, &Answered, &'static [usize]); 6] {
         [
             ("power on", &self.power_on, &[0]),
             ("write", &self.write, &[0, 1, 2, 3]),
             ("read", &self.read, &[0, 1, 2, 3]),
             ("grant", &self.grant, &[0, 1, 4, 5, 6]),
+            ("set speed", &self.set_speed, &[0, 1, 7]),
             ("valid (1 for yes)", &self.valid, &[0, 1]),
         ]
     }
@@ -295,6 +333,8 @@ struct Bench {
     /// The numbers of pending parameters: before and after accepted calls those
     /// that stand for a sequence, before refused ones the others.
     numbers: Numbers,
+    /// What the calls that set the speed came to.
+    speeds: Speeds,
 }
 
 impl Bench {
@@ -306,12 +346,14 @@ impl Bench {
             grants: Grants::of_sessions(),
             waits: Waits::new(),
             numbers: Numbers::new(),
+            speeds: Speeds::of_lists(),
         }
     }
 
     /// What the calls come to from here on.
-    fn count_anew(&mut self, grants: Grants) {
-        (self.grants, self.waits, self.numbers) = (grants, Waits::new(), Numbers::new());
+    fn count_anew(&mut self, grants: Grants, speeds: Speeds) {
+        (self.grants, self.speeds) = (grants, speeds);
+        (self.waits, self.numbers) = (Waits::new(), Numbers::new());
     }
 
     fn clear(&mut self) {
@@ -368,6 +410,11 @@ impl Bench {
         } else if matches!(before.pending, Pending::Stray(_)) {
             self.numbers.count(&before.pending);
         }
+        if model.number == 0 || matches!(call, Call::SetSpeed { .. }) {
+            if let Some(call) = call.about_speed() {
+                self.speeds.count(&before, call, model.number, &model.device);
+            }
+        }
         Ok((model, after))
     }
 
@@ -403,9 +450,9 @@ fn byte(rng: &mut Rng) -> u8 {
 
 /// Half of them from the edges: of addresses, lengths and slots.
 fn word(rng: &mut Rng) -> u16 {
-    const EDGES: [u16; 24] = [
-        0, 1, 2, 3, 4, 5, 7, 8, 9, 16, 31, 32, 33, 48, 64, 0x00FF, 0x0100, 8_128, 8_159, 8_160,
-        8_161, 8_192, 0xFFFE, 0xFFFF,
+    const EDGES: [u16; 26] = [
+        0, 1, 2, 3, 4, 5, 7, 8, 9, 16, 31, 32, 33, 48, 63, 64, 65, 0x00FF, 0x0100, 8_128, 8_159,
+        8_160, 8_161, 8_192, 0xFFFE, 0xFFFF,
     ];
     rng.pick_or(&EDGES, Rng::word)
 }
@@ -418,6 +465,13 @@ fn any_counter(rng: &mut Rng, count: u32) -> u32 {
         2 => rng.pick(&[0, 1, 0xFFFF, 0x1_0000, 0x1_0001, u32::MAX]),
         _ => rng.next() as u32,
     }
+}
+
+/// A code of the speed. Most of them are the four that there are, or next to
+/// these.
+fn any_code(rng: &mut Rng) -> u8 {
+    let any = rng.byte();
+    rng.pick(&[0, 1, 2, 3, 0, 1, 2, 3, 4, 5, 255, any])
 }
 
 fn any_count(rng: &mut Rng) -> u64 {
@@ -436,7 +490,7 @@ fn block_count(block: &Block) -> u32 {
 }
 
 const PORT_FIELDS: u32 = 5;
-const OTHER_FIELDS: u32 = 21;
+const OTHER_FIELDS: u32 = 22;
 const FIELDS: u32 = OTHER_FIELDS + 2 * PORT_FIELDS;
 
 fn set_port_field(rng: &mut Rng, port: &mut Port, field: u32) {
@@ -474,6 +528,7 @@ fn set_field(rng: &mut Rng, device: &mut Device, field: u32) {
         18 => clocks.bus = any_count(rng),
         19 => clocks.held = any_count(rng),
         20 => clocks.cpu = any_count(rng),
+        21 => core.control.speed = any_code(rng),
         _ => match field - OTHER_FIELDS {
             field if field < PORT_FIELDS => set_port_field(rng, &mut core.a, field),
             field => set_port_field(rng, &mut core.b, field - PORT_FIELDS),
@@ -530,15 +585,44 @@ fn any_pending(rng: &mut Rng) -> u16 {
 
 const NO_SLOT: Slot = Slot { elapsed: 0, bus: 0, length: 0, burst: false };
 
-/// A running slot, most often about the end of its bus time or its own.
+/// A running slot, most often about the end of its bus time or its own. The bus
+/// time is any that there can be, often at a limit or about the first multiple
+/// of 32.
 fn running_slot(rng: &mut Rng) -> Slot {
-    let bus = rng.between(4, 8) as u16;
+    let any = rng.between(4, 64) as u16;
+    let bus = rng.pick(&[4, 4, 5, 6, 7, 8, 9, 31, 32, 33, 63, 64, any, any]);
     let any = rng.between(1, 255) as u16;
-    let length = if rng.chance(1, 3) { bus } else { 32 * rng.pick(&[1, 1, 2, 3, 55, 255, any]) };
+    // The first multiple of 32 that is not below it.
+    let least = if bus > 32 { 2 } else { 1 };
+    let times = rng.pick(&[least, least, 2, 3, 55, 255, any]).max(least);
+    let length = if rng.chance(1, 3) { bus } else { 32 * times };
+    slot_about(rng, bus, length)
+}
+
+/// With these figures, and fewer clocks elapsed than its length.
+fn slot_about(rng: &mut Rng, bus: u16, length: u16) -> Slot {
     let any = rng.between(1, u32::from(length) - 1) as u16;
     let elapsed =
         rng.pick(&[1, bus - 1, bus, bus + 1, length - 2, length - 1, any]).min(length - 1);
     Slot { elapsed, bus, length, burst: rng.chance(1, 2) }
+}
+
+/// A slot with figures about the limits of those that there can be, on both
+/// sides of them.
+fn slot_at_a_limit(rng: &mut Rng) -> Slot {
+    let any = rng.between(2, 70) as u16;
+    let bus = rng.pick(&[3, 4, 8, 9, 31, 32, 33, 40, 63, 64, 65, any]);
+    let about = rng.pick(&[bus, bus, bus - 1, bus + 1]);
+    let below = bus / 32 * 32;
+    let multiple = rng.pick(&[below, below + 32, below + 64, 32, 64, 8_128, 8_160, 8_192]);
+    let any = rng.between(2, 8_300) as u16;
+    let length = rng.pick(&[about, about, multiple, multiple, 8_161, any]);
+    let mut slot = slot_about(rng, bus, length.max(2));
+    slot.length = length;
+    if rng.chance(1, 8) {
+        slot.elapsed = rng.pick(&[length, length + 1]);
+    }
+    slot
 }
 
 /// Clock counts whose sum fits: small, just below 64 bits, or anything.
@@ -579,12 +663,7 @@ fn valid_device(rng: &mut Rng) -> Device {
     let length = if rng.chance(1, 2) { rng.below(5) as u16 } else { word(rng) };
     let mut block = Block { length, counter: 0, zilog: rng.chance(1, 2) };
     block.counter = any_counter(rng, block_count(&block)).min(65_536);
-    // A device that has a byte to move has not finished its block.
-    if enabled && (slot.elapsed == 0 || slot.elapsed < slot.bus) {
-        block.length = block.length.max(1);
-        block.counter = block.counter.min(block_count(&block) - 1);
-    }
-    let core = Core {
+    let mut core = Core {
         a,
         b,
         block,
@@ -593,6 +672,7 @@ fn valid_device(rng: &mut Rng) -> Device {
             prescaler: if rng.chance(1, 2) { 0 } else { byte(rng) },
             burst: rng.chance(1, 2),
             restart: rng.chance(1, 2),
+            speed: rng.below(4) as u8,
         },
         status: Status { e: rng.chance(1, 2), t: rng.chance(1, 2) },
         readback: Readback {
@@ -604,7 +684,17 @@ fn valid_device(rng: &mut Rng) -> Device {
         enabled,
         slot,
     };
+    leave_bytes(&mut core);
     Device { core, clocks: valid_clocks(rng) }
+}
+
+/// A device that has a byte to move has not finished its block.
+fn leave_bytes(core: &mut Core) {
+    let Core { block, slot, enabled, .. } = core;
+    if *enabled && (slot.elapsed == 0 || slot.elapsed < slot.bus) {
+        block.length = block.length.max(1);
+        block.counter = block.counter.min(block_count(block) - 1);
+    }
 }
 
 /// An enabled device with many slots to come: of a long block, of a short one
@@ -614,6 +704,7 @@ fn busy_device(rng: &mut Rng) -> Device {
     let core = &mut device.core;
     core.enabled = true;
     core.control.prescaler = rng.pick(&[0, 0, 0, 0, 1, 1, 2, 3, 55, 255]);
+    core.control.speed = rng.pick(&[0, 1, 2, 3, 3, 3, 3]);
     core.block.length = match rng.below(8) {
         0..=2 => rng.between(100, 20_000) as u16,
         3 | 4 => rng.between(1, 4) as u16,
@@ -663,11 +754,11 @@ fn endless_device(rng: &mut Rng) -> Device {
     device
 }
 
-/// A valid device, one with any number of pending parameters, one with a few
-/// fields changed, one with any content, or the one that the last accepted call
-/// left.
+/// A valid device, one with any number of pending parameters, with a slot at a
+/// limit or with any speed, one with a few fields changed, one with any content,
+/// or the one that the last accepted call left.
 fn made_device(rng: &mut Rng, last: Device) -> Device {
-    match rng.below(20) {
+    match rng.below(22) {
         0..=7 => last,
         8..=12 => valid_device(rng),
         13 => {
@@ -675,7 +766,18 @@ fn made_device(rng: &mut Rng, last: Device) -> Device {
             device.core.pending = any_pending(rng);
             device
         }
-        14..=17 => {
+        14 => {
+            let mut device = valid_device(rng);
+            (device.core.enabled, device.core.slot) = (true, slot_at_a_limit(rng));
+            leave_bytes(&mut device.core);
+            device
+        }
+        15 => {
+            let mut device = valid_device(rng);
+            device.core.control.speed = any_code(rng);
+            device
+        }
+        16..=19 => {
             let mut device = valid_device(rng);
             for _ in 0..rng.between(1, 3) {
                 let field = rng.below(FIELDS);
@@ -725,7 +827,8 @@ fn made_clocks(rng: &mut Rng, device: Device, room: u128) -> u32 {
     }
     match rng.below(1_000) {
         0..=99 => rng.below(3),
-        100..=499 => rng.below(40),
+        100..=399 => rng.below(40),
+        400..=499 => rng.below(140),
         // About the end of the slot, of its bus time, or of the next one.
         500..=599 => u32::from(slot.length.saturating_sub(slot.elapsed)) + rng.below(12),
         600..=699 => u32::from(slot.bus.saturating_sub(slot.elapsed)) + rng.below(3),
@@ -748,10 +851,11 @@ fn made_grant(rng: &mut Rng, device: Device) -> Call {
 }
 
 fn made_call(rng: &mut Rng, device: Device) -> Call {
-    match rng.below(10) {
+    match rng.below(11) {
         0..=2 => Call::Write { port: made_port(rng), byte: made_byte(rng) },
-        3..=5 => Call::Read { port: made_port(rng) },
-        6..=8 => made_grant(rng, device),
+        3..=4 => Call::Read { port: made_port(rng) },
+        5..=7 => made_grant(rng, device),
+        8..=9 => Call::SetSpeed { code: any_code(rng) },
         _ => Call::Valid,
     }
 }
@@ -762,7 +866,8 @@ fn many_clocks(rng: &mut Rng, device: &model::Device, most: u32) -> u32 {
     if !device.enabled {
         return rng.below(most);
     }
-    let (bus, slot, running) = (grants::bus_time(device), grants::slot(device), device.slot);
+    let (bus, slot) = (model::bus_time(device), model::slot_length(device));
+    let (bus, slot, running) = (u32::from(bus), u32::from(slot), device.slot);
     let begun = device.counter + u32::from(running.elapsed < running.bus);
     let count = model::block_count(device);
     let slots = generate::many_slots(rng, count.saturating_sub(begun), count).min(most / slot);
@@ -815,7 +920,8 @@ fn waiting_device(rng: &mut Rng) -> Device {
     let core = &mut device.core;
     core.enabled = true;
     core.slot = running_slot(rng);
-    core.slot.length = 32 * rng.pick(&[1, 1, 1, 2, 3, 255]);
+    // Longer than its bus time.
+    core.slot.length = 32 * rng.pick(&[1, 1, 1, 2, 3, 255]).max(core.slot.bus / 32 + 1);
     core.slot.elapsed = match rng.below(4) {
         0 => core.slot.bus,
         1 => core.slot.length - 1,
@@ -861,10 +967,14 @@ fn write_about_a_wait(rng: &mut Rng, core: &Core) -> Call {
 }
 
 /// The next call on such a device: writes where it takes them, Enable where it
-/// is disabled, and clocks to the slot's end or its wait, or about there.
+/// is disabled, and clocks to the slot's end or its wait, or about there; a few
+/// times another speed.
 fn call_about_a_wait(rng: &mut Rng, core: &Core) -> Call {
     let slot = core.slot;
     let waits = slot.burst && slot.elapsed >= slot.bus;
+    if rng.chance(1, 20) {
+        return Call::SetSpeed { code: any_code(rng) };
+    }
     if waits && rng.chance(2, 3) {
         return write_about_a_wait(rng, core);
     }
@@ -921,28 +1031,48 @@ fn next_record(rest: &[u8]) -> Option<(&[u8], &[u8])> {
     Some((rest.get(2..end)?, &rest[end..]))
 }
 
+/// What a record has the device do, or puts into memory.
+enum Record<'a> {
+    Call(Call),
+    Memory { address: u16, bytes: &'a [u8] },
+}
+
+/// By a record's content; none for a fault.
+fn record(content: &[u8]) -> Option<Record<'_>> {
+    let word = |high, low| u16::from_be_bytes([high, low]);
+    Some(match *content {
+        [1, high, low, byte] => Record::Call(Call::Write { port: word(high, low), byte }),
+        [2, high, low] => Record::Call(Call::Read { port: word(high, low) }),
+        [3, b3, b2, b1, b0] => {
+            let clocks = u32::from_be_bytes([b3, b2, b1, b0]);
+            Record::Call(Call::Grant { memory: SIZE, latches: SIZE, clocks })
+        }
+        [4, high, low, ref bytes @ ..] if (1..=255).contains(&bytes.len()) => {
+            Record::Memory { address: word(high, low), bytes }
+        }
+        _ => return None,
+    })
+}
+
 /// A session's records, up to its end or to the first fault.
+fn records(session: &[u8]) -> impl Iterator<Item = Record<'_>> {
+    let mut rest = session.strip_prefix(&[1]).unwrap_or(&[]);
+    std::iter::from_fn(move || {
+        let (content, behind) = next_record(rest)?;
+        rest = behind;
+        record(content)
+    })
+}
+
+/// Runs a session's records.
 fn run_session(bench: &mut Bench, session: &[u8]) -> Result<(), String> {
     bench.clear();
     let (_, mut device) = bench.call(Device::power_on(), Call::PowerOn)?;
-    let mut rest = session.strip_prefix(&[1]).unwrap_or(&[]);
-    while let Some((content, behind)) = next_record(rest) {
-        rest = behind;
-        let call = match *content {
-            [1, high, low, byte] => Call::Write { port: u16::from_be_bytes([high, low]), byte },
-            [2, high, low] => Call::Read { port: u16::from_be_bytes([high, low]) },
-            [3, b3, b2, b1, b0] => {
-                let clocks = u32::from_be_bytes([b3, b2, b1, b0]);
-                Call::Grant { memory: SIZE, latches: SIZE, clocks }
-            }
-            [4, high, low, ref bytes @ ..] if (1..=255).contains(&bytes.len()) => {
-                bench.store(u16::from_be_bytes([high, low]), bytes);
-                bench.same_buffers()?;
-                continue;
-            }
-            _ => break,
-        };
-        device = bench.call(device, call)?.1;
+    for record in records(session) {
+        match record {
+            Record::Call(call) => device = bench.call(device, call)?.1,
+            Record::Memory { address, bytes } => bench.store(address, bytes),
+        }
         bench.same_buffers()?;
     }
     Ok(())
@@ -960,6 +1090,59 @@ fn made_sessions(bench: &mut Bench, seed: u64, sessions: u64) -> Result<(), Stri
 fn stored_session(bench: &mut Bench, path: &str) -> Result<(), String> {
     let session = stored::session(path)?;
     run_session(bench, &session).map_err(|case| format!("{}: {}", path, case))
+}
+
+// ---- Lists of calls that set the speed -----------------------------------
+
+/// The records of a list are those of a session: of a long one the start is
+/// enough.
+const RECORDS_OF_A_LIST: usize = 2_000;
+/// The second program takes every clock.
+const CLOCKS_OF_A_GRANT: u32 = 500_000;
+
+/// A session's grant is about the ends of slots at 28 MHz. At another speed the
+/// slots without a prescaler take as many times longer; so does the grant, most
+/// often.
+fn slowed(rng: &mut Rng, device: Device, call: Call) -> Call {
+    let device = model_of(device);
+    match call {
+        Call::Grant { memory, latches, clocks } if device.prescaler == 0 && rng.chance(3, 4) => {
+            let longer = clocks.saturating_mul(u32::from(model::factor(&device)));
+            let clocks = longer.min(CLOCKS_OF_A_GRANT.max(clocks));
+            Call::Grant { memory, latches, clocks }
+        }
+        call => call,
+    }
+}
+
+/// Runs a session's records, with speed calls strewn between them: from one for
+/// each record to few in the whole list.
+fn run_list(bench: &mut Bench, rng: &mut Rng, session: &[u8]) -> Result<(), String> {
+    bench.clear();
+    let (_, mut device) = bench.call(Device::power_on(), Call::PowerOn)?;
+    let seldom = rng.pick(&[2, 5, 20, 100]);
+    for record in records(session).take(RECORDS_OF_A_LIST) {
+        while rng.chance(1, seldom) {
+            device = bench.call(device, Call::SetSpeed { code: any_code(rng) })?.1;
+        }
+        match record {
+            Record::Call(call) => device = bench.call(device, slowed(rng, device, call))?.1,
+            Record::Memory { address, bytes } => bench.store(address, bytes),
+        }
+        bench.same_buffers()?;
+    }
+    Ok(())
+}
+
+/// Other sessions than those of the seed.
+fn made_lists(bench: &mut Bench, seed: u64, lists: u64) -> Result<(), String> {
+    for number in 1..=lists {
+        let mut rng = Rng::numbered(!seed, number);
+        let session = generate::session(&mut rng);
+        let place = |case| format!("seed {}, list {}: {}", seed, number, case);
+        run_list(bench, &mut rng, &session).map_err(place)?;
+    }
+    Ok(())
 }
 
 // ---- Every number of pending parameters ----------------------------------
@@ -1041,7 +1224,8 @@ fn every_number(bench: &mut Bench, seed: u64) -> Result<(), String> {
         }
         let write = Call::Write { port: rng.pick(&[0x6B, 0x0B]), byte: made_byte(&mut rng) };
         let grant = Call::Grant { memory: SIZE, latches: SIZE, clocks: 0 };
-        for call in [write, Call::Read { port: 0x6B }, grant] {
+        let set_speed = Call::SetSpeed { code: any_code(&mut rng) };
+        for call in [write, Call::Read { port: 0x6B }, grant, set_speed] {
             let (answer, after) = bench.answer(device, call).map_err(place)?;
             if (answer.number == 1) == stands || (!stands && after != device) {
                 return Err(place(format!("{:?} of {:?} gives {:?}", call, device, answer)));
@@ -1085,6 +1269,68 @@ fn every_byte(bench: &mut Bench, rng: &mut Rng, numbers: &BTreeSet<u16>) -> Resu
         }
     }
     Ok(writes)
+}
+
+// ---- Every speed code, and every slot ------------------------------------
+
+/// Sets the speed by each code, in a device with each, valid otherwise.
+fn every_code(bench: &mut Bench, seed: u64) -> Result<(), String> {
+    let mut rng = Rng::new(seed);
+    let mut counts = [0; 8];
+    for own in 0..=u8::MAX {
+        for code in 0..=u8::MAX {
+            let mut device = valid_device(&mut rng);
+            device.core.control.speed = own;
+            let mut expected = (7, device);
+            if own > 3 {
+                expected.0 = 1;
+            } else if code <= 3 {
+                expected.0 = 0;
+                expected.1.core.control.speed = code;
+            }
+            let place = |case| format!("seed {}, speed {} after {}: {}", seed, code, own, case);
+            let (answer, after) = bench.answer(device, Call::SetSpeed { code }).map_err(place)?;
+            if (answer.number, after) != expected {
+                return Err(place(format!("{:?} gives {:?}", device, answer)));
+            }
+            counts[usize::from(answer.number)] += 1;
+        }
+    }
+    println!(
+        "states: seed {}: each speed code in a device with each: {} set, {} refused with 7, {} \
+         refused with 1",
+        seed, counts[0], counts[7], counts[1]
+    );
+    Ok(())
+}
+
+/// Bus times from 4 to 64, each with itself and with the multiples of 32 from 32
+/// to 8,160 that are not below it. Those of up to 32 have 255 multiples, the
+/// others 254; 32 and 64 are multiples themselves.
+const SLOTS: u32 = 28 * (255 + 1) + 255 + 31 * (254 + 1) + 254;
+
+/// Tries the figures of a slot of which one clock has elapsed, valid ones and
+/// those about them, in devices that are valid otherwise.
+fn every_slot(bench: &mut Bench, seed: u64) -> Result<(), String> {
+    let mut rng = Rng::new(seed);
+    let (mut tried, mut valid) = (0, 0);
+    for bus in 0..=70 {
+        let mut device = valid_device(&mut rng);
+        for length in 0..=8_300 {
+            let slot = Slot { elapsed: 1, bus, length, burst: length & 1 == 1 };
+            (device.core.enabled, device.core.slot) = (true, slot);
+            leave_bytes(&mut device.core);
+            let place = |case| format!("seed {}, {:?}: {}", seed, slot, case);
+            let (answer, _) = bench.answer(device, Call::Valid).map_err(place)?;
+            tried += 1;
+            valid += u32::from(answer.number);
+        }
+    }
+    if valid != SLOTS {
+        return Err(format!("seed {}: {} slots are valid, and not {}", seed, valid, SLOTS));
+    }
+    println!("states: seed {}: {} slots, {} of them valid", seed, tried, valid);
+    Ok(())
 }
 
 // ---- A slot that would begin with its block finished ---------------------
@@ -1135,7 +1381,8 @@ fn finished_devices(bench: &mut Bench, seed: u64) -> Result<(), String> {
         let clocks = rng.pick(&[0, 1, 100]);
         let grant = Call::Grant { memory: SIZE, latches: SIZE, clocks };
         let write = Call::Write { port: 0x6B, byte: made_byte(&mut rng) };
-        for call in [grant, write, Call::Read { port: 0x6B }] {
+        let set_speed = Call::SetSpeed { code: any_code(&mut rng) };
+        for call in [grant, write, Call::Read { port: 0x6B }, set_speed] {
             let (answered, after) = bench.call(device, call).map_err(place)?;
             if answered != 1 || model_of(after) != before {
                 return Err(place(format!("{:?} is not refused with 1, or changes it", call)));
@@ -1154,14 +1401,20 @@ fn finished_devices(bench: &mut Bench, seed: u64) -> Result<(), String> {
 struct Options {
     calls: u64,
     sessions: u64,
+    lists: u64,
     seeds: Vec<u64>,
     paths: Vec<String>,
 }
 
 /// The options, or what is wrong with them.
 fn options(words: &[&str]) -> Result<Options, String> {
-    let mut options =
-        Options { calls: CALLS, sessions: SESSIONS, seeds: Vec::new(), paths: Vec::new() };
+    let mut options = Options {
+        calls: CALLS,
+        sessions: SESSIONS,
+        lists: LISTS,
+        seeds: Vec::new(),
+        paths: Vec::new(),
+    };
     let mut words = words.iter();
     while let Some(&word) = words.next() {
         let mut number = || {
@@ -1171,6 +1424,7 @@ fn options(words: &[&str]) -> Result<Options, String> {
         match word {
             "--calls" => options.calls = number()?,
             "--sessions" => options.sessions = number()?,
+            "--lists" => options.lists = number()?,
             "--seed" => options.seeds.push(number()?),
             _ if word.starts_with('-') => return Err(format!("{word} is not an option")),
             _ => options.paths.push(word.to_string()),
@@ -1189,21 +1443,26 @@ fn counted(of: &str, bench: &Bench, enough: bool) -> Result<(), String> {
     println!("{}", bench.grants.summary(of));
     println!("{}", bench.waits.summary(&format!("states: waits of {}", of)));
     println!("{}", bench.numbers.summary(&format!("states: pending parameters of {}", of)));
-    let missing = [
-        ("grant", bench.grants.missing()),
-        ("wait", bench.waits.missing()),
-        ("pending parameters", bench.numbers.missing()),
-    ];
-    for (what, missing) in missing {
-        if let (Some(missing), true) = (missing, enough) {
-            return Err(format!("no {} of {}: {}", what, of, missing));
-        }
+    none_missing("grant", of, bench.grants.missing(), enough)?;
+    none_missing("wait", of, bench.waits.missing(), enough)?;
+    none_missing("pending parameters", of, bench.numbers.missing(), enough)
+}
+
+/// The same of the calls that set the speed.
+fn speeds_counted(of: &str, bench: &Bench, enough: bool) -> Result<(), String> {
+    println!("{}", bench.speeds.summary(&format!("states: speeds of {}", of)));
+    none_missing("speed", of, bench.speeds.missing(), enough)
+}
+
+fn none_missing(what: &str, of: &str, missing: Option<String>, enough: bool) -> Result<(), String> {
+    match missing {
+        Some(missing) if enough => Err(format!("no {} of {}: {}", what, of, missing)),
+        _ => Ok(()),
     }
-    Ok(())
 }
 
 fn compare(options: &Options) -> Result<String, String> {
-    let Options { calls, sessions, seeds, paths } = options;
+    let Options { calls, sessions, lists, seeds, paths } = options;
     let mut bench = Bench::new();
     for path in paths {
         stored_session(&mut bench, path)?;
@@ -1211,16 +1470,25 @@ fn compare(options: &Options) -> Result<String, String> {
     println!("states: {} stored sessions", paths.len());
     for &seed in seeds {
         every_number(&mut bench, seed)?;
+        every_code(&mut bench, seed)?;
+        every_slot(&mut bench, seed)?;
         finished_devices(&mut bench, seed)?;
     }
-    bench.count_anew(Grants::of_devices());
+    bench.count_anew(Grants::of_devices(), Speeds::of_devices());
     for &seed in seeds {
         println!("states: seed {}: {} calls", seed, calls);
         made_calls(&mut bench, seed, *calls)?;
     }
     counted("devices", &bench, *calls >= CALLS)?;
+    speeds_counted("devices", &bench, *calls >= CALLS)?;
+    bench.count_anew(Grants::of_sessions(), Speeds::of_lists());
+    for &seed in seeds {
+        println!("states: seed {}: {} lists of calls that set the speed", seed, lists);
+        made_lists(&mut bench, seed, *lists)?;
+    }
+    speeds_counted("lists", &bench, *lists >= LISTS)?;
     // Without the stored ones: what is made has to come to everything alone.
-    bench.count_anew(Grants::of_sessions());
+    bench.count_anew(Grants::of_sessions(), Speeds::of_lists());
     for &seed in seeds {
         println!("states: seed {}: {} sessions", seed, sessions);
         made_sessions(&mut bench, seed, *sessions)?;

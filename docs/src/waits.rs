@@ -72,10 +72,10 @@ impl Step {
 
     /// Each slot spends its bus time first.
     fn slots_begun(&self) -> u64 {
-        let Device { a, b, slot, clocks, .. } = self.before;
+        let Device { slot, clocks, .. } = self.before;
         let running = u64::from(slot.bus.saturating_sub(slot.elapsed));
         let further = (self.after.clocks.bus - clocks.bus).saturating_sub(running);
-        further.div_ceil(u64::from(a.cycle) + u64::from(b.cycle))
+        further.div_ceil(u64::from(model::bus_time(&self.before)))
     }
 }
 
