@@ -102,13 +102,13 @@ struct Left {
 fn device_of_state(state: &State) -> Device {
     let State { a, b, block, control, e, t, enabled, slot, clocks } = *state;
     let clock::Block { length, counter, zilog } = block;
-    let clock::Control { forward, prescaler, burst, restart } = control;
+    let clock::Control { forward, prescaler, burst, restart, speed } = control;
     let clock::Clocks { bus, held, cpu } = clocks;
     let mut device = Device { clocks: zxndma::Clocks { bus, held, cpu }, ..Device::power_on() };
     device.core.a = port_of_state(a);
     device.core.b = port_of_state(b);
     device.core.block = zxndma::Block { length, counter, zilog };
-    device.core.control = zxndma::Control { forward, prescaler, burst, restart };
+    device.core.control = zxndma::Control { forward, prescaler, burst, restart, speed };
     device.core.status = zxndma::Status { e, t };
     device.core.enabled = enabled;
     let clock::Slot { elapsed, bus, length, burst } = slot;
@@ -137,6 +137,7 @@ fn device_of_model(device: &model::Device) -> Device {
             prescaler: device.prescaler,
             burst: device.burst,
             restart: device.auto_restart,
+            speed: device.speed,
         },
         status: zxndma::Status { e: device.e, t: device.t },
         readback: zxndma::Readback {
@@ -222,9 +223,12 @@ fn made_block(rng: &mut Rng) -> clock::Block {
 
 /// A running slot, most often about the end of its bus time or its own.
 fn made_slot(rng: &mut Rng) -> clock::Slot {
-    let bus = rng.between(4, 8) as u16;
+    let any = rng.between(4, 64) as u16;
+    let bus = rng.pick(&[4, 8, 32, 33, 64, any]);
     let any = 32 * rng.between(1, 255) as u16;
-    let length = rng.pick(&[bus, 32, 64, any]);
+    // The bus time, or a multiple of 32 that is not below it.
+    let least = if bus > 32 { 64 } else { 32 };
+    let length = if rng.chance(1, 4) { bus } else { rng.pick(&[32, 64, any]).max(least) };
     let any = rng.between(1, u32::from(length) - 1) as u16;
     let elapsed = rng.pick(&[1, bus - 1, bus, bus + 1, length - 1, any]).min(length - 1);
     clock::Slot { elapsed, bus, length, burst: rng.chance(1, 2) }
@@ -241,6 +245,7 @@ fn made_state(rng: &mut Rng) -> State {
             prescaler: rng.pick(&[0, 0, 0, 1, 2, 55, 255]),
             burst: rng.chance(1, 2),
             restart: rng.chance(1, 2),
+            speed: rng.below(4) as u8,
         },
         e: rng.chance(1, 2),
         t: rng.chance(1, 2),
@@ -394,8 +399,9 @@ fn port(io: bool, step: u8, address: u16) -> clock::Port {
 
 /// Without a prescaler: 8 clocks a byte.
 fn continuous(a: clock::Port, b: clock::Port) -> State {
-    let control = clock::Control { forward: true, prescaler: 0, burst: false, restart: false };
-    State { a, b, control, ..clock::music() }
+    let music = clock::music();
+    let control = clock::Control { prescaler: 0, burst: false, ..music.control };
+    State { a, b, control, ..music }
 }
 
 /// A block of one byte that begins again after each.

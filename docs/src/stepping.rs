@@ -33,7 +33,7 @@ pub mod clock {
         pub io: bool,
         /// 0 decrements the pointer, 1 increments it, anything else leaves it.
         pub step: u8,
-        /// The cycle in clocks, 2 to 4.
+        /// The cycle in clocks at 28 MHz, 2 to 4.
         pub cycle: u8,
     }
 
@@ -50,12 +50,15 @@ pub mod clock {
     pub struct Control {
         /// From A to B if true, from B to A if false.
         pub forward: bool,
-        /// The length of a slot in units of 32 clocks; 0 is off.
+        /// The least length of a slot in units of 32 clocks; 0 is off.
         pub prescaler: u8,
         /// Burst if true, continuous if false.
         pub burst: bool,
         /// Auto restart.
         pub restart: bool,
+        /// The code of the speed, 0 to 3: at each a cycle takes half the clocks
+        /// of the one before, at 3 its own.
+        pub speed: u8,
     }
 
     /// The running slot, with the figures fixed on its first clock. All 0 and
@@ -141,11 +144,10 @@ pub mod clock {
 
         /// The figures of a slot that begins now, before its first clock.
         pub fn new_slot(&self) -> Slot {
-            let bus = u16::from(self.a.cycle) + u16::from(self.b.cycle);
-            let length = match self.control.prescaler {
-                0 => bus,
-                prescaler => 32 * u16::from(prescaler),
-            };
+            let cycles = u16::from(self.a.cycle) + u16::from(self.b.cycle);
+            let bus = cycles << (3 - self.control.speed);
+            // A prescaler of 0 is never the larger.
+            let length = bus.max(32 * u16::from(self.control.prescaler));
             Slot { elapsed: 0, bus, length, burst: self.control.burst }
         }
 
@@ -194,13 +196,19 @@ pub mod clock {
     pub const MUSIC_CLOCKS: u32 = 115_343_360;
 
     /// A block of music about to begin: 65,536 bytes of memory to one I/O
-    /// port, in burst, at prescaler 55.
+    /// port, in burst, at prescaler 55 and 28 MHz.
     pub fn music() -> State {
         State {
             a: Port { address: 0, pointer: 0, io: false, step: 1, cycle: 4 },
             b: Port { address: 0xFFDF, pointer: 0xFFDF, io: true, step: 2, cycle: 4 },
             block: Block { length: 0xFFFF, counter: 0, zilog: true },
-            control: Control { forward: true, prescaler: 55, burst: true, restart: false },
+            control: Control {
+                forward: true,
+                prescaler: 55,
+                burst: true,
+                restart: false,
+                speed: 3,
+            },
             e: true,
             t: false,
             enabled: true,
@@ -215,8 +223,8 @@ usage: stepping
 Runs a zxnDMA in plain Rust that takes one clock at a time. It needs nothing.
 
 What it runs is a block of music, 65,536 bytes from memory to an I/O port in burst at
-prescaler 55: 115,343,360 clocks, one at a time. Prints the clock counts and
-the bytes moved.
+prescaler 55 and 28 MHz: 115,343,360 clocks, one at a time. Prints the clock counts
+and the bytes moved.
 
 Exit status: 0 done; 2 bad arguments.
 ";
