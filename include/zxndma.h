@@ -168,8 +168,8 @@ zxndma_read_answer zxndma_read(zxndma_device device, uint16_t port);
 zxndma_grant_answer zxndma_grant(zxndma_device device, uint8_t *memory, size_t memory_length, uint8_t *latches,
                                  size_t latches_length, uint32_t clocks);
 
-/* The processor's speed is set, by its code. The bus may be held, and a slot may be running: it keeps its figures, and the
- * slots after it go by the new speed. Nothing else changes the speed, Reset included. A code above 3 is refused with 7. */
+/* The processor's speed is set, by its code, at any time. A slot that is running keeps its figures, and the slots after it
+ * go by the new speed. No other call changes the speed, and Reset leaves it. A code above 3 is refused with 7. */
 zxndma_speed_answer zxndma_set_speed(zxndma_device device, uint8_t code);
 
 /* The device is valid: no call refuses it with 1. */

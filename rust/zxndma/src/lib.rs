@@ -301,10 +301,10 @@ impl Device {
         unsafe { zxndma_grant(self, memory, memory_length, latches, latches_length, clocks) }
     }
 
-    /// The processor's speed is set, by its code. The bus may be held, and a
-    /// slot may be running: it keeps its figures, and the slots after it go by
-    /// the new speed. Nothing else changes the speed, Reset included. Refused
-    /// with 7 if the code is above 3, and with 1.
+    /// The processor's speed is set, by its code, at any time. A slot that is
+    /// running keeps its figures, and the slots after it go by the new speed. No
+    /// other call changes the speed, and Reset leaves it. Refused with 7 if the
+    /// code is above 3, and with 1.
     pub fn set_speed(self, code: u8) -> SpeedAnswer {
         // SAFETY: as for a write.
         unsafe { zxndma_set_speed(self, code) }
