@@ -15,9 +15,9 @@ use Rattle.rules.specs.Choice.{pick, every, any}
 use Rattle.rules.specs.Validity.{valid, total}
 use Rattle.rules.specs.World.{System, Move}
 use Rattle.rules.specs.Calls.{read}
-use Rattle.rules.proofs.Choice.{clash, either, pick-true, pick-false, all-true, every-stop, every-stop-later}
-use Rattle.examples.specs.Rows.{Action, fill, latch, send, sendRefused, expect, expectRefused, clocks, borrow, counts, memory, latches, pointers, counter, status, enabled, count, suppose, supposeCounts, clocksRefused, figure, changed, nextMove, Row, Seen, same, answered, sendAll, expectAll, movesSo, perform, played, Failure, rowFailures, start, failures}
-use Rattle.examples.specs.Bites.{Other, OneOther, here, later, sendAccepted, clocksAccepted, sendRefusedNumber, expectByte, expectRefusedNumber, borrowNumber, countsBus, countsHeld, countsCpu, memoryByte, latchesByte, pointersA, pointersB, counterHolds, statusByte, enabledOr, countIs, clocksRefusedNumber, figureIs, changedValid, moveFrom, moveFromIo, moveTo, moveToIo, moveByte, Bites, TableBites, anyOf, expects, someExpects, allExpect, EveryRowExpects, ExpectsChangeable}
+use Rattle.rules.proofs.Choice.{clash, either, pick-true, pick-false, all-true, every-stop, every-stop-later, every-at}
+use Rattle.examples.specs.Rows.{Action, fill, latch, send, sendRefused, expect, expectRefused, speed, speedRefused, clocks, borrow, counts, memory, latches, pointers, counter, status, enabled, count, suppose, supposeCore, supposeCounts, clocksRefused, figure, changed, nextMove, Row, Seen, same, answered, sendAll, expectAll, movesSo, perform, played, Failure, rowFailures, start, failures}
+use Rattle.examples.specs.Bites.{Other, OneOther, here, later, sendAccepted, speedAccepted, clocksAccepted, sendRefusedNumber, expectByte, expectRefusedNumber, speedRefusedNumber, borrowNumber, countsBus, countsHeld, countsCpu, memoryByte, latchesByte, pointersA, pointersB, counterHolds, statusByte, enabledOr, countIs, clocksRefusedNumber, figureIs, changedValid, moveFrom, moveFromIo, moveTo, moveToIo, moveByte, Bites, TableBites, anyOf, expects, someExpects, allExpect, EveryRowExpects, ExpectsChangeable}
 
 -- ---- one value
 
@@ -61,7 +61,7 @@ unfolding expectAll
 reads-bite port _ _ r (here x y xs o) h =
     let e = all-true _ (right-before port xs (answered 0 x r (read (r .system) port)) h) in
     wrong-stays port xs _
-    (every-stop-later _ _ (every-stop-later _ _ (every-stop _ _ (other-number _ x y o (e .1 .1 .0)))))
+    (every-at 2 _ (other-number _ x y o (e .1 .1 .0)))
 reads-bite port _ _ r (later x xs ys o) h = reads-bite port xs ys (answered 0 x r (read (r .system) port)) o h
 
 -- ---- a move
@@ -81,22 +81,19 @@ module _ (f : ℕ) (i : Bool) (t : ℕ) (j : Bool) (b : ℕ) where
   unfolding movesSo
   move-to x none o h = refl
   move-to x (some m) o h =
-      every-stop-later _ _ (every-stop-later _ _ (every-stop _ _ (other-number _ t x o (all-true _ h .1 .1 .0))))
+      every-at 2 _ (other-number _ t x o (all-true _ h .1 .1 .0))
 
   move-to-io : (x : Bool) (m : Option Move) → Other j x → movesSo f i t j b m ≡ true → movesSo f i t x b m ≡ false
   unfolding movesSo
   move-to-io x none o h = refl
   move-to-io x (some m) o h =
-      every-stop-later _ _
-      (every-stop-later _ _ (every-stop-later _ _ (every-stop _ _ (other-flag (m .to .io) j x o (all-true _ h .1 .1 .1 .0)))))
+      every-at 3 _ (other-flag (m .to .io) j x o (all-true _ h .1 .1 .1 .0))
 
   move-byte : (x : ℕ) (m : Option Move) → Other b x → movesSo f i t j b m ≡ true → movesSo f i t j x m ≡ false
   unfolding movesSo
   move-byte x none o h = refl
   move-byte x (some m) o h =
-      every-stop-later _ _
-      (every-stop-later _ _
-      (every-stop-later _ _ (every-stop-later _ _ (every-stop _ _ (other-number _ b x o (all-true _ h .1 .1 .1 .1 .0))))))
+      every-at 4 _ (other-number _ b x o (all-true _ h .1 .1 .1 .1 .0))
 
 -- ---- an action
 
@@ -106,15 +103,17 @@ second-of n m t ts k o h = every-stop-later _ _ (every-stop _ _ (other-number k 
 pub bites : Bites
 unfolding perform sendAll
 bites _ _ s (sendAccepted port byte m o) h = second-of 0 m _ _ _ o h
+bites _ _ s (speedAccepted code m o) h = second-of 0 m _ _ _ o h
 bites _ _ s (clocksAccepted z m o) h = second-of 0 m _ _ _ o h
 bites _ _ s (sendRefusedNumber port byte n m o) h = second-of n m _ _ _ o h
 bites _ _ s (expectByte port xs ys o) h = reads-bite port xs ys _ o h
 bites _ _ s (expectRefusedNumber port n m o) h = second-of n m _ _ _ o h
+bites _ _ s (speedRefusedNumber code n m o) h = second-of n m _ _ _ o h
 bites _ _ s (borrowNumber x y z n m o) h = every-stop _ _ (other-number _ n m o (all-true _ h .0))
 bites _ _ s (countsBus b k c x o) h = every-stop _ _ (other-number _ b x o (all-true _ h .0))
 bites _ _ s (countsHeld b k c x o) h = second-of k x _ _ _ o h
 bites _ _ s (countsCpu b k c x o) h =
-    every-stop-later _ _ (every-stop-later _ _ (every-stop _ _ (other-number _ c x o (all-true _ h .1 .1 .0))))
+    every-at 2 _ (other-number _ c x o (all-true _ h .1 .1 .0))
 bites _ _ s (memoryByte at xs ys o) h = same-bites xs ys _ o h
 bites _ _ s (latchesByte at xs ys o) h = same-bites xs ys _ o h
 bites _ _ s (pointersA a b x o) h = every-stop _ _ (other-number _ a x o (all-true _ h .0))
@@ -192,6 +191,8 @@ expects-changeable (sendRefused port byte n) h = record { other = _; isOther = s
 expects-changeable (expect port []) h = clash h
 expects-changeable (expect port (x ∷ xs)) h = record { other = _; isOther = expectByte port _ _ (some-other x xs) }
 expects-changeable (expectRefused port n) h = record { other = _; isOther = expectRefusedNumber port n _ (more n) }
+expects-changeable (speed code) h = clash h
+expects-changeable (speedRefused code n) h = record { other = _; isOther = speedRefusedNumber code n _ (more n) }
 expects-changeable (clocks n) h = clash h
 expects-changeable (borrow m l z n) h = record { other = _; isOther = borrowNumber m l z n _ (more n) }
 expects-changeable (counts b k c) h = record { other = _; isOther = countsBus b k c _ (more b) }
@@ -205,6 +206,7 @@ expects-changeable (status n) h = record { other = _; isOther = statusByte n _ (
 expects-changeable (enabled t) h = record { other = _; isOther = enabledOr t _ (flipped t) }
 expects-changeable (count n) h = record { other = _; isOther = countIs n _ (more n) }
 expects-changeable (suppose n) h = clash h
+expects-changeable (supposeCore f) h = clash h
 expects-changeable (supposeCounts b k c) h = clash h
 expects-changeable (clocksRefused z n) h = record { other = _; isOther = clocksRefusedNumber z n _ (more n) }
 expects-changeable (figure f n) h = record { other = _; isOther = figureIs f n _ (more n) }

@@ -5,13 +5,14 @@ use native.Mathlib.Omega.{arith}
 use mathlib.Core.Path.{_≡_, refl, ap}
 use mathlib.Core.List.{List}
 use lib.ListN.{getD, length}
-use Rattle.examples.specs.Slips.{savedCopy, NotSaved, NotWhole, NotModeByRead, NotAtEveryCore, NotWithoutContinue, NotWithoutZero, NotPassed, NotAnew}
+use Rattle.examples.specs.Slips.{savedCopy, NotSaved, NotWhole, NotModeByRead, NotAtEveryCore, NotAtLongCycles, NotInSlowSlot, NotWithoutContinue, NotWithoutZero, NotPassed, NotAnew}
 use Rattle.examples.specs.ShortLists.{sent}
 use Rattle.rules.specs.Clock.{Clock}
 use Rattle.rules.specs.World.{System}
 use Rattle.rules.specs.Spans.{kindCode}
 use Rattle.rules.specs.Accounts.{bytesNoted, zeroedNoted}
 use Rattle.rules.specs.Recheck.{clockWithRecheck, firstClockWithRecheck}
+use Rattle.rules.specs.At28.{slotLengthAt28, validLengthAt28, runningSlotAt28, validSlotAt28, validCoreAt28}
 use Rattle.examples.specs.RowsOpened.{rowsOpened}
 
 -- at 1002 stands the first byte and not the second
@@ -39,6 +40,15 @@ not-at-every-core =
       systems = λ e. let z : _≡_ {A = ℕ} 0 1 = ap (λ (s : System (List ℕ)). s .clocks .bus) e in omega arith;
       refused = refl;
     }
+
+-- code 3 is not 28 MHz alone where the cycles are too long, or a slower slot still runs
+pub not-at-long-cycles : NotAtLongCycles
+unfolding rowsOpened slotLengthAt28
+not-at-long-cycles = record { code = refl; invalid = refl; slot = refl; slotAt28 = refl }
+
+pub not-in-slow-slot : NotInSlowSlot
+unfolding rowsOpened validLengthAt28 runningSlotAt28 validSlotAt28 validCoreAt28
+not-in-slow-slot = record { code = refl; valid = refl; validAt28 = refl }
 
 -- one byte has moved, and no counter but Load's 0 is noted
 pub not-without-continue : NotWithoutContinue

@@ -8,7 +8,7 @@ use mathlib.Core.List.{List, [], _∷_, _++_}
 use Rattle.rules.specs.Choice.{every, any}
 use Rattle.rules.specs.World.{System}
 use Rattle.rules.specs.declared.Core.{Core}
-use Rattle.examples.specs.Rows.{Action, fill, latch, send, sendRefused, expect, expectRefused, clocks, borrow, counts, memory, latches, pointers, counter, status, enabled, count, suppose, supposeCounts, clocksRefused, figure, changed, nextMove, Row, perform, start, failures}
+use Rattle.examples.specs.Rows.{Action, fill, latch, send, sendRefused, expect, expectRefused, speed, speedRefused, clocks, borrow, counts, memory, latches, pointers, counter, status, enabled, count, suppose, supposeCore, supposeCounts, clocksRefused, figure, changed, nextMove, Row, perform, start, failures}
 use Rattle.examples.specs.WorkedExamples.{table}
 
 -- the value is another
@@ -20,14 +20,16 @@ pub data OneOther : List ℕ → List ℕ → Type 0 where
   here : (x y : ℕ) (xs : List ℕ) → Other x y → OneOther (x ∷ xs) (y ∷ xs)
   later : (x : ℕ) (xs ys : List ℕ) → OneOther xs ys → OneOther (x ∷ xs) (x ∷ ys)
 
--- an action, and the same with one of the values that it expects replaced by another, be it the 0 of a write or a grant that
--- is accepted; those that expect none do not occur
+-- an action, and the same with one of the values that it expects replaced by another, be it the 0 of a write, a speed call or
+-- a grant that is accepted; those that expect none do not occur
 pub data OneChanged : Action → Action → Type 0 where
   sendAccepted : (port byte m : ℕ) → Other 0 m → OneChanged (send port (byte ∷ [])) (sendRefused port byte m)
+  speedAccepted : (code m : ℕ) → Other 0 m → OneChanged (speed code) (speedRefused code m)
   clocksAccepted : (z m : ℕ) → Other 0 m → OneChanged (clocks z) (clocksRefused z m)
   sendRefusedNumber : (port byte n m : ℕ) → Other n m → OneChanged (sendRefused port byte n) (sendRefused port byte m)
   expectByte : (port : ℕ) (xs ys : List ℕ) → OneOther xs ys → OneChanged (expect port xs) (expect port ys)
   expectRefusedNumber : (port n m : ℕ) → Other n m → OneChanged (expectRefused port n) (expectRefused port m)
+  speedRefusedNumber : (code n m : ℕ) → Other n m → OneChanged (speedRefused code n) (speedRefused code m)
   borrowNumber : (x y z n m : ℕ) → Other n m → OneChanged (borrow x y z n) (borrow x y z m)
   countsBus : (b h c x : ℕ) → Other b x → OneChanged (counts b h c) (counts x h c)
   countsHeld : (b h c x : ℕ) → Other h x → OneChanged (counts b h c) (counts b x c)
@@ -76,6 +78,8 @@ expects (send port bytes) = false
 expects (sendRefused port byte number) = true
 expects (expect port bytes) = anyOf bytes
 expects (expectRefused port number) = true
+expects (speed code) = false
+expects (speedRefused code number) = true
 expects (clocks n) = false
 expects (borrow m l n number) = true
 expects (counts bus held cpu) = true
@@ -87,6 +91,7 @@ expects (status byte) = true
 expects (enabled t) = true
 expects (count n) = true
 expects (suppose n) = false
+expects (supposeCore f) = false
 expects (supposeCounts bus held cpu) = false
 expects (clocksRefused n number) = true
 expects (figure f n) = true

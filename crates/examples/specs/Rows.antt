@@ -17,7 +17,7 @@ use Rattle.rules.specs.Blocks.{blockCount}
 use Rattle.rules.specs.Clock.{stopped}
 use Rattle.rules.specs.Buffers.{placed, flat}
 use Rattle.rules.specs.World.{System, Move, note}
-use Rattle.rules.specs.Calls.{Answer, write, read, grant}
+use Rattle.rules.specs.Calls.{Answer, write, read, setSpeed, grant}
 use Rattle.rules.specs.declared.Core.{Core}
 
 -- one thing done, with what it must answer, or one thing looked at
@@ -32,6 +32,10 @@ pub data Action : Type 0 where
   expect : ℕ → List ℕ → Action
   -- a read of this port is refused with this number and gives the byte 0
   expectRefused : ℕ → ℕ → Action
+  -- a speed call of this code is accepted
+  speed : ℕ → Action
+  -- a speed call of this code is refused with this number
+  speedRefused : ℕ → ℕ → Action
   -- a grant of this many clocks is accepted
   clocks : ℕ → Action
   -- a grant that borrows a memory and latches of these lengths, and asks for this many clocks, is answered with this
@@ -53,6 +57,8 @@ pub data Action : Type 0 where
   count : ℕ → Action
   -- it is supposed that this many bytes of the block have moved and the device is disabled: for a block too long to run
   suppose : ℕ → Action
+  -- it is supposed that the core is changed so
+  supposeCore : (Core → Core) → Action
   -- it is supposed that the clock counts are these
   supposeCounts : ℕ → ℕ → ℕ → Action
   -- a grant of this many clocks is refused with this number
@@ -129,6 +135,8 @@ perform (send port bytes) s = sendAll port bytes (seen true s)
 perform (sendRefused port byte number) s = answered number 0 (seen true s) (write s port byte)
 perform (expect port bytes) s = expectAll port bytes (seen true s)
 perform (expectRefused port number) s = answered number 0 (seen true s) (read s port)
+perform (speed code) s = answered 0 0 (seen true s) (setSpeed s code)
+perform (speedRefused code number) s = answered number 0 (seen true s) (setSpeed s code)
 perform (clocks n) s = answered 0 0 (seen true s) (grant flat s n)
 perform (borrow m l n number) s =
     let a : Answer (List ℕ) = grant flat (withBuffers (replicate m 0) (replicate l 0) s) n in
@@ -144,6 +152,7 @@ perform (status byte) s = seen (eqb (statusByte (s .world .core .status)) byte) 
 perform (enabled t) s = seen (Bool·beq (s .world .core .enabled) t) s
 perform (count n) s = seen (eqb (blockCount (s .world .core .block)) n) s
 perform (suppose n) s = seen true (withCore (supposed n (s .world .core)) s)
+perform (supposeCore f) s = seen true (withCore (f (s .world .core)) s)
 perform (supposeCounts bus held cpu) s =
     seen true (record { world = s .world; clocks = record { bus = bus; held = held; cpu = cpu } })
 perform (clocksRefused n number) s = answered number 0 (seen true s) (grant flat s n)

@@ -8,7 +8,7 @@ use mathlib.Core.List.{List, [], _∷_, _++_}
 use lib.ListN.{length, replicate}
 use Rattle.rules.specs.Clock.{Kind, busClock, cpuClock}
 use Rattle.rules.specs.Buffers.{flat}
-use Rattle.rules.specs.Entries.{Poke, flatOutside, Entry, portWrite, clockGrant, otherGrant, outsideChange}
+use Rattle.rules.specs.Entries.{Poke, flatOutside, Entry, portWrite, speedCall, clockGrant, otherGrant, outsideChange}
 use Rattle.rules.specs.History.{Event, clockNoted, counterZeroed, Past, History, history, pastAtPowerOn}
 
 -- bytes written to port 006B before other entries
@@ -16,9 +16,12 @@ unfoldable pub sent : List ℕ → List (Entry flat (List Poke)) → List (Entry
 sent [] es = es
 sent (byte ∷ bytes) es = portWrite 0x6B byte ∷ sent bytes es
 
--- a grant of the list's own buffers, and a byte put into memory from outside
+-- a grant of the list's own buffers, a speed call, and a byte put into memory from outside
 abbrev pub granting : ℕ → Entry flat (List Poke)
 granting n = clockGrant n
+
+abbrev pub settingSpeed : ℕ → Entry flat (List Poke)
+settingSpeed code = speedCall code
 
 abbrev pub poking : ℕ → ℕ → Entry flat (List Poke)
 poking address byte = outsideChange (record { address = address; byte = byte } ∷ [])
@@ -109,6 +112,11 @@ module _ (wrong : length {A = ℕ} [] ≡ 65536 → ⊥) where
       -- an outside change is not noted; the byte that moves is the one that stands there on its clock
       ∷ worked (blocks 1 0x82) (granting 3 ∷ poking 0x1000 0xA5 ∷ granting 1 ∷ poking 0x1000 0xB6 ∷ []) (0 ∷ 0 ∷ 0 ∷ 0 ∷ []) 4
       (movingClock 0x1000 0x2000 0xA5 none ∷ threeBefore (counterZeroed 0 ∷ []))
+      -- a speed call is not noted, accepted or refused: at 14 MHz the byte moves on the eighth clock, whatever is set by then
+      ∷ worked (blocks 1 0x82)
+      (settingSpeed 2 ∷ granting 7 ∷ settingSpeed 0 ∷ settingSpeed 4 ∷ granting 1 ∷ [])
+      (0 ∷ 0 ∷ 0 ∷ 7 ∷ 0 ∷ []) 8
+      (movingClock 0x1000 0x2000 0 none ∷ threeBefore (threeBefore (stillClock busClock ∷ counterZeroed 0 ∷ [])))
       -- a grant that lends another memory or other latches is refused, and neither noted nor added
       ∷ worked [] (lending [] ∷ lending (replicate 65536 0) ∷ []) (4 ∷ 5 ∷ []) 0 []
       -- refusal 6 is judged by the sum: after 1 clock there is room for 2^64 - 2 more

@@ -3,12 +3,13 @@
 -- Assumes nothing.
 use Prim.Native.Nat.{ℕ, zero, suc, _+_}
 use mathlib.Core.Path.{_≡_}
-use mathlib.Core.Bool.{false}
+use mathlib.Core.Bool.{true, false}
 use mathlib.Core.List.{List, [], _∷_}
 use lib.ListN.{take, drop, getD, set}
 use Rattle.rules.specs.Blocks.{blockCount}
-use Rattle.rules.specs.Parts.{withSlot}
-use Rattle.rules.specs.Slots.{noSlot}
+use Rattle.rules.specs.Parts.{withCycle, withPrescaler, withA, withB, withControl, withSlot}
+use Rattle.rules.specs.Slots.{noSlot, newSlot}
+use Rattle.rules.specs.PowerOn.{powerOn}
 use Rattle.rules.specs.Validity.{validCore}
 use Rattle.rules.specs.Registers.{inMode}
 use Rattle.rules.specs.Readback.{readByte}
@@ -20,7 +21,8 @@ use Rattle.rules.specs.Entries.{flatOutside, portWrite}
 use Rattle.rules.specs.History.{Past, grantPassed, history, pastAtPowerOn}
 use Rattle.rules.specs.Accounts.{bytesNoted, zeroedNoted}
 use Rattle.rules.specs.Recheck.{clockWithRecheck, enabledOnEmptyBlock}
-use Rattle.examples.specs.Rows.{Row, withCore, start, played}
+use Rattle.rules.specs.At28.{newSlotAt28, validCoreAt28}
+use Rattle.examples.specs.Rows.{Row, send, clocks, speed, withCore, start, played}
 use Rattle.examples.specs.WorkedExamples.{threeClocks, overlap, modeByParameter}
 use Rattle.examples.specs.ShortLists.{sent, granting, blocks, zeros}
 use Rattle.rules.specs.declared.Core.{Core}
@@ -62,6 +64,30 @@ pub record NotAtEveryCore : Type 0 where
   pub clocks : clockWithRecheck enabledOnEmptyBlock ≡ clockOf enabledOnEmptyBlock → ⊥
   pub systems : clockedBy clockWithRecheck flat 1 (withCore enabledOnEmptyBlock start) ≡ clocked flat 1 (withCore enabledOnEmptyBlock start) → ⊥
   pub refused : grant flat (withCore enabledOnEmptyBlock start) 1 .answered .number ≡ 1
+
+-- ---- the speed
+
+-- not valid: cycles of 200 with prescaler 1, at code 3
+abbrev pub longCycles : Core
+longCycles =
+    withA (withCycle 200 (powerOn .a))
+    (withB (withCycle 200 (powerOn .b)) (withControl (withPrescaler 1 (powerOn .control)) powerOn))
+
+-- that code 3 is 28 MHz alone at every core: here it is not, by a slot of 400 clocks and one of 32
+pub record NotAtLongCycles : Type 0 where
+  pub code : longCycles .control .speed ≡ 3
+  pub invalid : validCore longCycles ≡ false
+  pub slot : newSlot longCycles .length ≡ 400
+  pub slotAt28 : newSlotAt28 longCycles .length ≡ 32
+
+-- a block of one byte at 14 MHz, back at code 3 in mid slot: valid, in a slot of 16 clocks, and not so at 28 MHz alone
+abbrev pub inSlowSlot : Core
+inSlowSlot = played (speed 2 ∷ send 0x0B (0x87 ∷ []) ∷ clocks 1 ∷ speed 3 ∷ []) start .world .core
+
+pub record NotInSlowSlot : Type 0 where
+  pub code : inSlowSlot .control .speed ≡ 3
+  pub valid : validCore inSlowSlot ≡ true
+  pub validAt28 : validCoreAt28 inSlowSlot ≡ false
 
 -- ---- the history
 

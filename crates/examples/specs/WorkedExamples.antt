@@ -1,15 +1,17 @@
 -- The worked examples (document 01: bench sheet). The rows whose names begin with P stand in document 01; the others are
 -- ours, each for a rule that those would let slip.
 -- Assumes nothing.
-use Prim.Native.Nat.{ℕ}
+use Prim.Native.Nat.{ℕ, _*_, _-_}
+use Prim.Native.String.{String}
 use mathlib.Core.Path.{_≡_}
 use mathlib.Core.Bool.{Bool, true, false}
 use mathlib.Core.List.{List, [], _∷_, _++_}
 use Rattle.rules.specs.Parts.{withCycle, withCounter, withMask, withPosition, withA, withB, withBlock, withReadback, withPending, withSlot}
 use Rattle.rules.specs.declared.Core.{Core}
+use Rattle.rules.specs.Speed.{atSpeed}
 use Rattle.rules.specs.Slots.{slotLength}
 use Rattle.rules.specs.Bytes.{lowByte, highByte}
-use Rattle.examples.specs.Rows.{Action, Row, row, fill, latch, send, sendRefused, expect, expectRefused, clocks, borrow, counts, memory, latches, pointers, counter, status, enabled, count, suppose, supposeCounts, clocksRefused, figure, changed, nextMove, start, failures}
+use Rattle.examples.specs.Rows.{Action, Row, row, fill, latch, send, sendRefused, expect, expectRefused, speed, speedRefused, clocks, borrow, counts, memory, latches, pointers, counter, status, enabled, count, suppose, supposeCore, supposeCounts, clocksRefused, figure, changed, nextMove, start, failures}
 
 -- the bytes of P1: port A at 1000, four bytes, to port B at 2000, cycles of 2 clocks, continuous
 abbrev pub sheet : List ℕ
@@ -41,6 +43,65 @@ inSlot n bus length burst c = withSlot (record { elapsed = n; bus = bus; length 
 -- disabled
 abbrev pub endsWithTheSlot : List Action
 endsWithTheSlot = clocks 21 ∷ enabled true ∷ status 0x3B ∷ clocks 1 ∷ enabled false ∷ status 0x1B ∷ []
+
+-- the speed code
+abbrev pub speedCode : Core → ℕ
+speedCode c = c .control .speed
+
+-- P1 at a speed: a byte in so many clocks, all of them on the bus
+abbrev pub slowed : String → ℕ → ℕ → Row
+slowed name code bus =
+    row name
+    (speed code
+    ∷ send 0x6B sheet
+    ∷ figure speedCode code
+    ∷ clocks (bus - 1)
+    ∷ counter 0
+    ∷ memory 0x2000 (0xE1 ∷ [])
+    ∷ clocks 1
+    ∷ counter 1
+    ∷ memory 0x2000 (0xA1 ∷ 0xE2 ∷ [])
+    ∷ counts bus 0 0
+    ∷ clocks (3 * bus - 1)
+    ∷ enabled true
+    ∷ clocks 1
+    ∷ enabled false
+    ∷ counts (4 * bus) 0 0
+    ∷ [])
+
+-- P4 at a speed: of the 32 clocks of a byte so many are on the bus, and so many are the processor's
+abbrev pub slowedWithPrescaler : String → ℕ → ℕ → ℕ → Row
+slowedWithPrescaler name code bus cpu =
+    row name
+    (speed code
+    ∷ send 0x6B (program 0x1000 3 (0x22 ∷ 0x01 ∷ []) 0xCD 0x2000 0x82)
+    ∷ clocks 32
+    ∷ counter 1
+    ∷ counts bus 0 cpu
+    ∷ clocks 63
+    ∷ enabled true
+    ∷ clocks 1
+    ∷ enabled false
+    ∷ counts (3 * bus) 0 (3 * cpu)
+    ∷ [])
+
+-- cycles of 4 + 4 at 3.5 MHz, which are 64 clocks, with a prescaler, in burst: the slot's length, and what comes of this many
+-- clocks more
+abbrev pub slowest : String → ℕ → ℕ → ℕ → Bool → Row
+slowest name prescaler length more on =
+    row name
+    (speed 0
+    ∷ send 0x0B (0xC1 ∷ 0x50 ∷ 0x20 ∷ prescaler ∷ 0x87 ∷ [])
+    ∷ clocks 63
+    ∷ counter 0
+    ∷ figure (λ c. c .slot .bus) 64
+    ∷ figure (λ c. c .slot .length) length
+    ∷ clocks 1
+    ∷ counter 1
+    ∷ clocks more
+    ∷ enabled on
+    ∷ counts 64 0 more
+    ∷ [])
 
 -- P3: three clocks move nothing, and the bus is held; the fourth moves the byte
 abbrev pub threeClocks : Row
@@ -1010,6 +1071,11 @@ table =
     ∷ changed (λ c. withReadback (withMask 128 (c .readback)) c) false
     ∷ changed (λ c. withReadback (withPosition 6 (c .readback)) c) true
     ∷ changed (λ c. withReadback (withPosition 7 (c .readback)) c) false
+    ∷ changed (atSpeed 0) true
+    ∷ changed (atSpeed 1) true
+    ∷ changed (atSpeed 2) true
+    ∷ changed (atSpeed 4) false
+    ∷ changed (atSpeed 255) false
     ∷ changed (withPending 15) true
     ∷ changed (withPending 13) true
     ∷ changed (withPending 10) true
@@ -1053,7 +1119,10 @@ table =
     ∷ changed (inSlot 1 4 4 false) true
     ∷ changed (inSlot 1 8 8 true) true
     ∷ changed (inSlot 1 3 3 false) false
-    ∷ changed (inSlot 1 9 9 false) false
+    ∷ changed (inSlot 1 9 9 false) true
+    ∷ changed (inSlot 1 64 64 true) true
+    ∷ changed (inSlot 1 65 65 false) false
+    ∷ changed (inSlot 1 65 96 false) false
     ∷ changed (inSlot 1 4 5 false) false
     ∷ changed (inSlot 1 4 0 false) false
     ∷ changed (inSlot 1 4 48 false) false
@@ -1061,6 +1130,12 @@ table =
     ∷ changed (inSlot 32 4 32 false) false
     ∷ changed (inSlot 8159 8 8160 true) true
     ∷ changed (inSlot 1 4 8192 false) false
+    ∷ changed (inSlot 1 32 32 false) true
+    ∷ changed (inSlot 1 33 32 false) false
+    ∷ changed (inSlot 1 33 64 false) true
+    ∷ changed (inSlot 1 64 32 false) false
+    ∷ changed (inSlot 1 64 96 true) true
+    ∷ changed (inSlot 8159 64 8160 true) true
     ∷ changed (λ c. withBlock (withCounter 3 (c .block)) c) false
     ∷ changed (λ c. withBlock (withCounter 3 (c .block)) (inSlot 3 4 32 false c)) false
     ∷ changed (λ c. withBlock (withCounter 3 (c .block)) (inSlot 4 4 32 false c)) true
@@ -1089,6 +1164,127 @@ table =
     ∷ memory 0xA0FF (0xA1 ∷ 0x00 ∷ [])
     ∷ pointers 0x1001 0xA100
     ∷ expect 0x6B (0x00 ∷ 0x01 ∷ 0x10 ∷ 0x00 ∷ 0xA1 ∷ [])
+    ∷ [])
+    -- each speed without a prescaler and with one
+    ∷ slowed "3.5 MHz" 0 32
+    ∷ slowed "7 MHz" 1 16
+    ∷ slowed "14 MHz" 2 8
+    ∷ slowed "28 MHz" 3 4
+    ∷ slowedWithPrescaler "3.5 MHz, prescaler 1: as long as the bus time" 0 32 0
+    ∷ slowedWithPrescaler "7 MHz, prescaler 1" 1 16 16
+    ∷ slowedWithPrescaler "14 MHz, prescaler 1" 2 8 24
+    ∷ slowedWithPrescaler "28 MHz, prescaler 1" 3 4 28
+    -- the largest bus time: above 32 clocks, a tie at 64, below 96 and below 8,160
+    ∷ slowest "64 clocks, prescaler 1" 1 64 0 false
+    ∷ slowest "64 clocks, prescaler 2" 2 64 0 false
+    ∷ slowest "64 clocks, prescaler 3" 3 96 32 false
+    ∷ slowest "64 clocks, prescaler 255" 255 8160 33 true
+    -- 7 MHz in continuous mode: the wait is held
+    ∷ row "7 MHz, continuous"
+    (speed 1
+    ∷ send 0x6B (program 0x1000 3 (0x22 ∷ 0x01 ∷ []) 0xAD 0x2000 0x82)
+    ∷ clocks 96
+    ∷ enabled false
+    ∷ counts 48 48 0
+    ∷ [])
+    -- a new speed in mid slot, while the bus is held and in the wait: the slot keeps its figures, the next one has new ones
+    ∷ row "speed in mid slot"
+    (send 0x6B (program 0x1000 3 (0x22 ∷ 0x01 ∷ []) 0xCD 0x2000 0x82)
+    ∷ clocks 2
+    ∷ sendRefused 0x6B 0x83 3
+    ∷ speed 0
+    ∷ figure speedCode 0
+    ∷ figure (λ c. c .slot .bus) 4
+    ∷ figure (λ c. c .slot .length) 32
+    ∷ clocks 1
+    ∷ counter 0
+    ∷ clocks 1
+    ∷ counter 1
+    ∷ counts 4 0 0
+    ∷ clocks 6
+    ∷ speed 1
+    ∷ clocks 22
+    ∷ counts 4 0 28
+    ∷ clocks 15
+    ∷ counter 1
+    ∷ figure (λ c. c .slot .bus) 16
+    ∷ speed 3
+    ∷ clocks 1
+    ∷ counter 2
+    ∷ clocks 16
+    ∷ counts 20 0 44
+    ∷ clocks 32
+    ∷ enabled false
+    ∷ counts 24 0 72
+    ∷ [])
+    -- a new speed between Enable and the first clock, and between two slots
+    ∷ row "speed before a slot"
+    (send 0x6B sheet
+    ∷ speed 2
+    ∷ clocks 7
+    ∷ counter 0
+    ∷ clocks 1
+    ∷ counter 1
+    ∷ speed 1
+    ∷ clocks 15
+    ∷ counter 1
+    ∷ clocks 1
+    ∷ counter 2
+    ∷ counts 24 0 0
+    ∷ [])
+    -- refused speeds, whoever has the bus; the code, what is pending and the rest stay
+    ∷ row "refused speeds"
+    (figure speedCode 3
+    ∷ speedRefused 4 7
+    ∷ speedRefused 255 7
+    ∷ figure speedCode 3
+    ∷ send 0x6B (0x7D ∷ 0x34 ∷ [])
+    ∷ speed 2
+    ∷ speedRefused 4 7
+    ∷ speedRefused 131 7
+    ∷ figure speedCode 2
+    ∷ figure pendingNumber 14
+    ∷ send 0x6B (0x12 ∷ 0x01 ∷ 0x00 ∷ 0xCF ∷ 0x87 ∷ [])
+    ∷ pointers 0x1234 0x0000
+    ∷ speedRefused 5 7
+    ∷ clocks 15
+    ∷ enabled true
+    ∷ speedRefused 4 7
+    ∷ clocks 1
+    ∷ enabled false
+    ∷ counts 16 0 0
+    ∷ [])
+    -- a device that is not valid: 1, and not 7
+    ∷ row "speed of an invalid device"
+    (supposeCounts 18446744073709551615 0 1
+    ∷ speedRefused 0 1
+    ∷ speedRefused 3 1
+    ∷ speedRefused 4 1
+    ∷ supposeCounts 18446744073709551615 0 0
+    ∷ speed 1
+    ∷ speedRefused 255 7
+    ∷ supposeCore (atSpeed 4)
+    ∷ speedRefused 3 1
+    ∷ speedRefused 4 1
+    ∷ sendRefused 0x6B 0xC3 1
+    ∷ expectRefused 0x6B 1
+    ∷ clocksRefused 0 1
+    ∷ figure speedCode 4
+    ∷ [])
+    -- Reset, other commands, register bytes and reads leave the speed
+    ∷ row "speed through Reset"
+    (speed 1
+    ∷ send 0x6B (0xC3 ∷ [])
+    ∷ figure speedCode 1
+    ∷ send 0x6B (0x83 ∷ 0xC7 ∷ 0xCB ∷ 0xCF ∷ 0xD3 ∷ 0x8B ∷ 0xA7 ∷ 0xBF ∷ 0x05 ∷ 0x14 ∷ 0x10 ∷ 0x81 ∷ 0x82 ∷ [])
+    ∷ figure speedCode 1
+    ∷ expect 0x6B (0x3A ∷ 0x3A ∷ [])
+    ∷ figure speedCode 1
+    ∷ send 0x6B (0xC3 ∷ sheet)
+    ∷ clocks 16
+    ∷ counter 1
+    ∷ counts 16 0 0
+    ∷ figure speedCode 1
     ∷ [])
     ∷ []
 

@@ -2,11 +2,12 @@
 ghost use mathlib.Core.Path.{_≡_};
 ghost use Rattle.rules.specs.Validity.{valid, total};
 ghost use Rattle.rules.specs.Buffers.{flat};
-ghost use Rattle.rules.specs.Calls.{writeReply, readReply, grant};
-ghost use Rattle.zxndma.specs.Answers.{deviceAtPowerOn, writeAnswer, readAnswer, systemOf, grantAnswer};
+ghost use Rattle.rules.specs.Calls.{writeReply, readReply, speedReply, grant};
+ghost use Rattle.zxndma.specs.Answers.{deviceAtPowerOn, writeAnswer, readAnswer, speedAnswer, systemOf, grantAnswer};
 use zxndma::Device;
 use zxndma::GrantAnswer;
 use zxndma::ReadAnswer;
+use zxndma::SpeedAnswer;
 use zxndma::WriteAnswer;
 
 // A device as it is when power comes on.
@@ -31,6 +32,14 @@ pub extern "C" fn zxndma_read(device: Device, port: u16) -> ReadAnswer
     ensures { λ r. ⌜ r ≡ readAnswer (readReply (device .core) (device .clocks) port) ⌝ }
 {
     device.read(port)
+}
+
+// The speed of the processor becomes that of a code.
+#[no_mangle]
+pub extern "C" fn zxndma_set_speed(device: Device, code: u8) -> SpeedAnswer
+    ensures { λ r. ⌜ r ≡ speedAnswer (speedReply (device .core) (device .clocks) code) ⌝ }
+{
+    device.set_speed(code)
 }
 
 // That many clocks pass.

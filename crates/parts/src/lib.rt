@@ -8,4 +8,5 @@ pub mod power_on;
 pub mod refusal;
 pub mod selection;
 pub mod slot;
+pub mod speed;
 pub mod valid;

@@ -2,6 +2,7 @@
 ghost use mathlib.Core.Path.{_≡_};
 ghost use Rattle.rules.specs.Parts.{withA, withB, withStatus, withReadback, withPending, withSlot};
 ghost use Rattle.rules.specs.Commands.{disable};
+ghost use Rattle.rules.specs.Speed.{atSpeed};
 use crate::slot;
 use rules::Core;
 use rules::Port;
@@ -51,6 +52,15 @@ pub fn with_pending(p: u16, c: Core) -> Core
 {
     let mut next = c;
     next.pending = p;
+    next
+}
+
+// At another speed.
+pub fn at_speed(code: u8, c: Core) -> Core
+    ensures { λ r. ⌜ r ≡ atSpeed code c ⌝ }
+{
+    let mut next = c;
+    next.control.speed = code;
     next
 }
 

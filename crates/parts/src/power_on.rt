@@ -3,6 +3,7 @@ ghost use mathlib.Core.Path.{_≡_};
 ghost use Rattle.rules.specs.PowerOn.{portAtPowerOn, statusAtReset, readbackAtReset, powerOn, noClocks};
 use crate::pending;
 use crate::slot;
+use crate::speed;
 use rules::Block;
 use rules::Clocks;
 use rules::Control;
@@ -42,7 +43,7 @@ pub fn readback_at_reset() -> Readback
     }
 }
 
-// A to B, prescaler off, continuous, no auto restart, zxn mode, disabled, nothing pending.
+// A to B, prescaler off, continuous, no auto restart, 28 MHz, zxn mode, disabled, nothing pending.
 pub fn core() -> Core
     ensures { λ r. ⌜ r ≡ powerOn ⌝ }
 {
@@ -57,6 +58,7 @@ pub fn core() -> Core
         prescaler: 0,
         burst: false,
         restart: false,
+        speed: speed::FULL,
     };
     let status = status_at_reset();
     let readback = readback_at_reset();

@@ -1,8 +1,9 @@
-// Why a port write or a port read is refused.
+// Why a port write, a port read or a speed call is refused.
 ghost use mathlib.Core.Path.{_≡_};
 ghost use Rattle.rules.specs.Validity.{total};
-ghost use Rattle.rules.specs.Refusals.{wrongPort, accessRefusal};
+ghost use Rattle.rules.specs.Refusals.{wrongPort, accessRefusal, speedRefusal};
 use crate::slot;
+use crate::speed;
 use crate::valid;
 use rules::Clocks;
 use rules::Core;
@@ -30,6 +31,19 @@ pub fn access_number(c: Core, k: Clocks, port: u16) -> u8
     }
     if held {
         return 3;
+    }
+    0
+}
+
+// The number of a speed call: 0 for accepted.
+pub fn speed_number(c: Core, k: Clocks, code: u8) -> u8
+    ensures { λ r. ⌜ r ≡ speedRefusal c (total k) code ⌝ }
+{
+    if !valid::is_valid(c, k) {
+        return 1;
+    }
+    if !speed::is_speed(code) {
+        return 7;
     }
     0
 }

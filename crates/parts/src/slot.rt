@@ -1,6 +1,7 @@
-// The transfer slot: the one that begins or runs, waiting in it, and who has the bus.
+// The transfer slot: the one that begins or runs, at the speed that the device has, waiting in it, and who has the bus.
 ghost use mathlib.Core.Path.{_≡_};
-ghost use Rattle.rules.specs.Slots.{noSlot, waiting, busHeld, unmoved, slotLength, newSlot, slotOf};
+ghost use Rattle.rules.specs.Slots.{noSlot, waiting, busHeld, unmoved, busTimeOf, slotLength, newSlot, slotOf};
+use crate::speed;
 use rules::Core;
 use rules::Slot;
 
@@ -16,6 +17,17 @@ pub fn no_slot() -> Slot
     }
 }
 
+// The bus time of a slot that begins.
+fn bus_time(c: Core) -> u16
+    ensures { λ r. ⌜ r ≡ busTimeOf (c .control .speed) (c .a .cycle) (c .b .cycle) ⌝ }
+{
+    let control = c.control;
+    let factor = speed::factor_of(control);
+    let a = c.a.cycle as u16;
+    let b = c.b.cycle as u16;
+    factor * (a + b)
+}
+
 // The length of a slot that begins.
 fn slot_length(prescaler: u8, bus: u16) -> u16
     ensures { λ r. ⌜ r ≡ slotLength prescaler bus ⌝ }
@@ -24,16 +36,18 @@ fn slot_length(prescaler: u8, bus: u16) -> u16
         return bus;
     }
     let units = prescaler as u16;
-    32 * units
+    let prescaled = 32 * units;
+    if bus < prescaled {
+        return prescaled;
+    }
+    bus
 }
 
 // The slot that the registers start.
 pub fn new_slot(c: Core) -> Slot
     ensures { λ r. ⌜ r ≡ newSlot c ⌝ }
 {
-    let a = c.a.cycle as u16;
-    let b = c.b.cycle as u16;
-    let bus = a + b;
+    let bus = bus_time(c);
     let length = slot_length(c.control.prescaler, bus);
     let burst = c.control.burst;
     Slot {

@@ -1,10 +1,11 @@
 // Validity of a core, part by part, and of a core with its clock counts.
 ghost use mathlib.Core.Path.{_≡_};
 ghost use lib.Dec.{leb};
-ghost use Rattle.rules.specs.Validity.{validPort, validReadback, restingSlot, validLength, runningSlot, validSlot, validProgress, validCore, total, most64, valid};
+ghost use Rattle.rules.specs.Validity.{validPort, validReadback, restingSlot, prescaledLength, validLength, runningSlot, validSlot, validProgress, validCore, total, most64, valid};
 use crate::block;
 use crate::pending;
 use crate::slot;
+use crate::speed;
 use rules::Block;
 use rules::Clocks;
 use rules::Core;
@@ -14,6 +15,12 @@ use rules::Slot;
 
 // The largest number of 64 bits.
 pub const MOST: u64 = 18446744073709551615;
+
+// The longest bus time, two cycles of 4 at 3.5 MHz.
+const MOST_BUS: u16 = 64;
+
+// The longest slot, 255 units of 32 clocks.
+const MOST_LENGTH: u16 = 8160;
 
 // The cycle is 2 to 4 clocks.
 fn valid_port(p: Port) -> bool
@@ -36,12 +43,19 @@ fn resting_slot(s: Slot) -> bool
     (s.bus == 0) & ((s.length == 0) & !s.burst)
 }
 
-// The length is the bus time, or a multiple of 32 from 32 to 8,160.
+// A multiple of 32 from 32 to 8,160.
+fn prescaled_length(n: u16) -> bool
+    ensures { λ r. ⌜ r ≡ prescaledLength n ⌝ }
+{
+    (32 <= n) & ((n <= MOST_LENGTH) & (n % 32 == 0))
+}
+
+// The length is the bus time, or such a multiple of 32 that is not below it.
 fn valid_length(s: Slot) -> bool
     ensures { λ r. ⌜ r ≡ validLength s ⌝ }
 {
-    let prescaled = (32 <= s.length) & ((s.length <= 8160) & (s.length % 32 == 0));
-    (s.length == s.bus) | prescaled
+    let prescaled = prescaled_length(s.length);
+    (s.length == s.bus) | (prescaled & (s.bus <= s.length))
 }
 
 // With clocks elapsed the bus time and the length are within their bounds, and the length is not reached.
@@ -49,7 +63,7 @@ fn running_slot(s: Slot) -> bool
     ensures { λ r. ⌜ r ≡ runningSlot s ⌝ }
 {
     let length = valid_length(s);
-    (4 <= s.bus) & ((s.bus <= 8) & (length & (s.elapsed < s.length)))
+    (4 <= s.bus) & ((s.bus <= MOST_BUS) & (length & (s.elapsed < s.length)))
 }
 
 // Clocks have elapsed only while the device is enabled.
@@ -95,6 +109,9 @@ fn valid_core(c: Core) -> bool
         return false;
     }
     if 65536 < block.counter {
+        return false;
+    }
+    if !speed::is_speed(c.control.speed) {
         return false;
     }
     if !valid_readback(readback) {

@@ -69,7 +69,7 @@ fn b_timing_reset(c: Core) -> Core
     part::with_b(p, c)
 }
 
-// Prescaler 0 and no auto restart.
+// Prescaler 0 and no auto restart; the speed stays.
 fn control_reset(c: Core) -> Core
     ensures { λ r. ⌜ r ≡ withControl (controlAtReset (c .control)) c ⌝ }
 {

@@ -10,19 +10,21 @@ use mathlib.Core.List.{List, [], _∷_}
 use lib.Dec.{eqb}
 use borrow.Author.Tests.{eqb-true, eqb-false, ne-eqb}
 use Rattle.rules.specs.Choice.{pick}
-use Rattle.rules.specs.Validity.{total}
+use Rattle.rules.specs.Speed.{atSpeed}
+use Rattle.rules.specs.Validity.{total, validCore}
 use Rattle.rules.specs.Clock.{Kind, busClock, heldClock, cpuClock, counted, clockOf}
 use Rattle.rules.specs.Registers.{written}
 use Rattle.rules.specs.Readback.{readByte}
 use Rattle.rules.specs.Buffers.{Store, Buffers}
 use Rattle.rules.specs.World.{World, System, Note, step, note, stepCounted, clocked}
-use Rattle.rules.specs.Refusals.{accessRefusal, grantRefusal}
-use Rattle.rules.specs.Calls.{Reply, Answer, refused, unlessRefused, beside, write, read, grantNumber, grant, readReplyOver, writeReplyOver, grantOver}
+use Rattle.rules.specs.Refusals.{accessRefusal, speedRefusal, grantRefusal}
+use Rattle.rules.specs.Calls.{Reply, Answer, refused, unlessRefused, beside, write, read, setSpeed, grantNumber, grant, readReplyOver, speedReplyOver, writeReplyOver, grantOver}
 use Rattle.rules.specs.Steering.{bits}
-use Rattle.rules.specs.Entries.{Outside, Entry, portWrite, portRead, clockGrant, otherGrant, outsideChange, besideBuffers, grantOtherOver, enter, run, systemAtPowerOn, runOver}
+use Rattle.rules.specs.Entries.{Outside, Entry, portWrite, portRead, speedCall, clockGrant, otherGrant, outsideChange, besideBuffers, grantOtherOver, enter, run, systemAtPowerOn, runOver}
 use Rattle.rules.specs.History.{Event, clockNoted, counterZeroed, Past, withCore, writePassed, clockPassed, clocksPassed, grantPassed, notedUnless, noteEntry, history, pastAtPowerOn, clocksPassedBy, grantNotedBy, historyBy}
 use Rattle.rules.specs.Accounts.{ofKind, clocksNoted, bytesOf, bytesNoted, heldBefore, zeroedNoted, clocksAsked, clocksAccepted, numbersOf, Demand3}
 use Rattle.rules.specs.declared.Clocks.{Clocks}
+use Rattle.rules.specs.declared.Core.{Core}
 use Rattle.rules.proofs.Choice.{pick-cases, pick-both, both-picked, pick-true, pick-false, pick-ap}
 use Rattle.rules.proofs.World.{clocked-zero, clocked-suc, clocked-total}
 use Rattle.rules.proofs.Calls.{granted, grant-refuses}
@@ -154,19 +156,32 @@ module _ {M : Type 0} (σ : Store M) where
       (λ d. record { number = sym (eqb-true _ _ d); agree = written-agrees s es port byte c; sum = no-clocks _ _ })
       (λ d. record { number = refl; agree = as-before s es c; sum = no-clocks _ _ }))
 
-  read-step : (s : System M) (es : List Event) (port n : ℕ) → n ≡ accessRefusal (s .world .core) (total (s .clocks)) port → CountsOf s es → Step 0 s (read s port) n (notedUnless n (withCore (readByte (s .world .core) .core) (pastOf s es)) (pastOf s es) .past)
-  unfolding readReplyOver unlessRefused notedUnless
-  read-step s es port n e c =
-      rw e
-      (both-picked (λ (r : Reply) (q : Past M). Step 0 s (beside (s .world .buffers) r) (accessRefusal (s .world .core) (total (s .clocks)) port) q)
+  -- ---- a port read, and a speed call
+
+  -- a call that leaves the counter as it is
+  uncounted-step :
+      (s : System M) (es : List Event) (n byte : ℕ) (next : Core)
+      → next .block .counter ≡ s .world .core .block .counter → CountsOf s es
+      → Step 0 s (beside (s .world .buffers) (unlessRefused n byte next (s .world .core) (s .clocks))) n (notedUnless n (withCore next (pastOf s es)) (pastOf s es) .past)
+  unfolding unlessRefused notedUnless
+  uncounted-step s es n byte next e c =
+      both-picked (λ (r : Reply) (q : Past M). Step 0 s (beside (s .world .buffers) r) n q)
       _ _ _ _ _
       (λ d.
       record {
         number = sym (eqb-true _ _ d);
-        agree = record { world = refl; sum = refl; counts = counts-same _ es _ _ (read-same (s .world .core)) c };
+        agree = record { world = refl; sum = refl; counts = counts-same _ es _ _ e c };
         sum = no-clocks _ _;
       })
-      (λ d. record { number = refl; agree = as-before s es c; sum = no-clocks _ _ }))
+      (λ d. record { number = refl; agree = as-before s es c; sum = no-clocks _ _ })
+
+  read-step : (s : System M) (es : List Event) (port n : ℕ) → n ≡ accessRefusal (s .world .core) (total (s .clocks)) port → CountsOf s es → Step 0 s (read s port) n (notedUnless n (withCore (readByte (s .world .core) .core) (pastOf s es)) (pastOf s es) .past)
+  unfolding readReplyOver
+  read-step s es port n e c = rw e (uncounted-step s es _ _ _ (read-same (s .world .core)) c)
+
+  speed-step : (s : System M) (es : List Event) (code n : ℕ) → n ≡ speedRefusal (s .world .core) (total (s .clocks)) code → CountsOf s es → Step 0 s (setSpeed s code) n (notedUnless n (withCore (atSpeed code (s .world .core)) (pastOf s es)) (pastOf s es) .past)
+  unfolding speedReplyOver
+  speed-step s es code n e c = rw e (uncounted-step s es _ _ _ refl c)
 
   -- ---- a grant
 
@@ -176,7 +191,7 @@ module _ {M : Type 0} (σ : Store M) where
       let k = clocks-agree n s p (record { world = refl; counts = c }) in
       record { world = k .world; sum = clocked-total σ n s ∙ sym (clocks-sum n p); counts = k .counts }
 
-  own-step : (s : System M) (es : List Event) (n : ℕ) → CountsOf s es → Step n s (grant σ s n) (grantNumber σ s n) (grantNotedBy clockOf σ (s .world .buffers) n (pastOf s es) .past)
+  own-step : (s : System M) (es : List Event) (n : ℕ) → CountsOf s es → Step n s (grant σ s n) (grantNumber σ s n) (grantNotedBy validCore clockOf σ (s .world .buffers) n (pastOf s es) .past)
   unfolding grantOver notedUnless
   own-step s es n c =
       both-picked (λ (a : Answer M) (q : Past M). Step n s a (grantNumber σ s n) q) _ _ _ _ _
@@ -196,10 +211,10 @@ module _ {M C : Type 0} (σ : Store M) (ω : Outside M C) where
 
   other-step :
       (s : System M) (es : List Event) (n : ℕ) (b : Buffers M) → (otherNumber s n b ≡ 0 → ⊥) → CountsOf s es
-      → Step n s (grantOtherOver bits clockOf σ s n b) (otherNumber s n b) (grantNotedBy clockOf σ b n (pastOf s es) .past)
+      → Step n s (grantOtherOver bits clockOf σ s n b) (otherNumber s n b) (grantNotedBy validCore clockOf σ b n (pastOf s es) .past)
   unfolding notedUnless
   other-step s es n b wrong c =
-      subst (λ (a : Answer M). Step n s a (otherNumber s n b) (grantNotedBy clockOf σ b n (pastOf s es) .past))
+      subst (λ (a : Answer M). Step n s a (otherNumber s n b) (grantNotedBy validCore clockOf σ b n (pastOf s es) .past))
       (other-answer s n b wrong)
       (subst (λ (p : Past M). Step n s (record { answered = refused (otherNumber s n b); system = s }) (otherNumber s n b) p)
       (sym (pick-false _ _ _ (ne-eqb _ _ wrong)))
@@ -211,6 +226,7 @@ module _ {M C : Type 0} (σ : Store M) (ω : Outside M C) where
   unfolding notedUnless
   entry-literal (portWrite port byte) s es c = write-step σ s es port byte _ refl c
   entry-literal (portRead port) s es c = read-step σ s es port _ refl c
+  entry-literal (speedCall code) s es c = speed-step σ s es code _ refl c
   entry-literal (clockGrant n) s es c = own-step σ s es n c
   entry-literal (otherGrant n b wrong) s es c =
       other-step s es n b (λ e. let g = granted σ _ _ b n e in wrong (g .memory) (g .latches)) c

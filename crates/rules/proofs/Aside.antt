@@ -1,35 +1,33 @@
--- The pending number stands aside: what a byte is carried out as, a read and a clock do the same to a core with another
--- number in it, choice by choice, and a refusal looks at no more than whether what is pending is valid.
+-- The pending number stands aside, and in a slot that runs the speed does: what a byte is carried out as, a read and a clock do
+-- the same to a core with another number in it, choice by choice, and validity looks at no more than whether what is pending is valid.
 -- Assumes nothing.
 use Prim.Native.Nat.{ℕ, zero, suc}
-use mathlib.Core.Path.{_≡_, refl, _∙_, ap}
+use mathlib.Core.Path.{_≡_, refl, sym, _∙_, ap}
 use mathlib.Core.Bool.{Bool}
 use Rattle.rules.specs.Parts.{withPending}
+use Rattle.rules.specs.Speed.{atSpeed}
 use Rattle.rules.specs.Slots.{busHeld, slotOf}
-use Rattle.rules.specs.Validity.{validCoreIf, validIf}
+use Rattle.rules.specs.Validity.{validCoreIf}
 use Rattle.rules.specs.Commands.{enable, readingCommand, command}
 use Rattle.rules.specs.Registers.{wr3, register, parameter, carriedOutAs}
 use Rattle.rules.specs.Readback.{registerByte, Byte, gives, readByte}
 use Rattle.rules.specs.Clock.{Clock, clock, movesAt, movedAt, kindAt, Ending, ending, slotEnd, clockEnd, begun, slotClock, clockOf, counted}
-use Rattle.rules.specs.Buffers.{Store, Buffers, source, destination}
+use Rattle.rules.specs.Buffers.{Store, source, destination}
 use Rattle.rules.specs.World.{System, system, buffersAfter, stepCounted, clockedBy, clocked}
-use Rattle.rules.specs.Refusals.{accessRefusalIf, lentRefusalIf, grantRefusalIf}
+use Rattle.rules.specs.Refusals.{accessRefusalIf}
 use Rattle.rules.specs.declared.Core.{Core}
 use Rattle.rules.proofs.Choice.{both-picked, ends, _∥_, tables}
+use Rattle.rules.proofs.Framing.{slot-timed}
 
--- ---- refusals
+-- ---- validity and refusals
 
-pub valid-aside : (t : Bool) (n : ℕ) (c : Core) (sum : ℕ) → validIf t (withPending n c) sum ≡ validIf t c sum
-unfolding validIf validCoreIf
-valid-aside t n c sum = refl
+pub valid-aside : (t : Bool) (n : ℕ) (c : Core) → validCoreIf t (withPending n c) ≡ validCoreIf t c
+unfolding validCoreIf
+valid-aside t n c = refl
 
 pub access-aside : (t : Bool) (n : ℕ) (c : Core) (sum port : ℕ) → accessRefusalIf t (withPending n c) sum port ≡ accessRefusalIf t c sum port
-unfolding accessRefusalIf validIf validCoreIf busHeld
+unfolding accessRefusalIf busHeld
 access-aside t n c sum port = refl
-
-pub grant-aside : {M : Type 0} (t : Bool) (n : ℕ) (σ : Store M) (c : Core) (sum : ℕ) (b : Buffers M) (clocks : ℕ) → grantRefusalIf t σ (withPending n c) sum b clocks ≡ grantRefusalIf t σ c sum b clocks
-unfolding grantRefusalIf lentRefusalIf validIf validCoreIf
-grant-aside t n σ c sum b clocks = refl
 
 module _ (n : ℕ) where
   -- ---- a byte
@@ -80,36 +78,60 @@ module _ (n : ℕ) where
   unfolding readByte registerByte
   read-aside c = tables WithByte (refl ∥ refl ∥ ends refl)
 
-  -- ---- a clock
+-- ---- a clock of a slot: neither the pending number nor the speed bears on it
 
-  abbrev WithEnding : Ending → Ending → Type 0
-  WithEnding e f = f ≡ ending (e .zeroed) (withPending n (e .core))
+module _ (n code : ℕ) where
+  -- n pending, at another speed
+  abbrev put : Core → Core
+  put c = withPending n (atSpeed code c)
 
-  abbrev WithClock : Clock → Clock → Type 0
-  WithClock k l = l ≡ clock (k .kind) (k .moves) (k .zeroed) (withPending n (k .next))
+  abbrev Put : Core → Core → Type 0
+  Put c d = d ≡ put c
 
-  moved-aside : (m : ℕ) (c : Core) → With (movedAt m c) (movedAt m (withPending n c))
+  abbrev PutEnding : Ending → Ending → Type 0
+  PutEnding e f = f ≡ ending (e .zeroed) (put (e .core))
+
+  moved-aside : (m : ℕ) (c : Core) → Put (movedAt m c) (movedAt m (put c))
   unfolding movedAt
-  moved-aside m c = both-picked With _ _ _ _ _ (λ e. refl) (λ e. refl)
+  moved-aside m c = both-picked Put _ _ _ _ _ (λ e. refl) (λ e. refl)
 
-  slot-end-aside : (c : Core) → WithEnding (slotEnd c) (slotEnd (withPending n c))
+  slot-end-aside : (c : Core) → PutEnding (slotEnd c) (slotEnd (put c))
   unfolding slotEnd
   slot-end-aside c =
-      both-picked WithEnding _ _ _ _ _ (λ e. both-picked WithEnding _ _ _ _ _ (λ d. refl) (λ d. refl)) (λ e. refl)
+      both-picked PutEnding _ _ _ _ _ (λ e. both-picked PutEnding _ _ _ _ _ (λ d. refl) (λ d. refl)) (λ e. refl)
 
-  clock-end-aside : (m : ℕ) (c : Core) → WithEnding (clockEnd m c) (clockEnd m (withPending n c))
+  clock-end-aside : (m : ℕ) (c : Core) → PutEnding (clockEnd m c) (clockEnd m (put c))
   unfolding clockEnd
-  clock-end-aside m c = both-picked WithEnding _ _ _ _ _ (λ e. refl) (λ e. slot-end-aside c)
+  clock-end-aside m c = both-picked PutEnding _ _ _ _ _ (λ e. refl) (λ e. slot-end-aside c)
 
-  slot-clock-aside : (m : ℕ) (c : Core) → WithClock (slotClock m c) (slotClock m (withPending n c))
+  slot-clock-aside : (m : ℕ) (c : Core) → slotClock m (withPending n (atSpeed code c)) ≡ clock (slotClock m c .kind) (slotClock m c .moves) (slotClock m c .zeroed) (put (slotClock m c .next))
   unfolding slotClock kindAt
   slot-clock-aside m c =
       ap (λ (e : Ending). clock (kindAt m c) (movesAt m c) (e .zeroed) (e .core))
       (ap (clockEnd m) (moved-aside m c) ∙ clock-end-aside m (movedAt m c))
 
+-- the one by itself, and the other
+slot-pending : (n m : ℕ) (c : Core) → slotClock m (withPending n c) ≡ clock (slotClock m c .kind) (slotClock m c .moves) (slotClock m c .zeroed) (withPending n (slotClock m c .next))
+slot-pending n m c =
+    slot-clock-aside n (c .control .speed) m c
+    ∙ ap (λ (v : ℕ). clock (slotClock m c .kind) (slotClock m c .moves) (slotClock m c .zeroed) (withPending n (atSpeed v (slotClock m c .next))))
+    (sym (slot-timed (λ a b speed pending. speed ≡ c .control .speed) (λ s. Unit {0}) tt m c refl tt .0))
+
+pub slot-speed : (code m : ℕ) (c : Core) → slotClock m (atSpeed code c) ≡ clock (slotClock m c .kind) (slotClock m c .moves) (slotClock m c .zeroed) (atSpeed code (slotClock m c .next))
+slot-speed code m c =
+    slot-clock-aside (c .pending) code m c
+    ∙ ap (λ (v : ℕ). clock (slotClock m c .kind) (slotClock m c .moves) (slotClock m c .zeroed) (withPending v (atSpeed code (slotClock m c .next))))
+    (sym (slot-timed (λ a b speed pending. pending ≡ c .pending) (λ s. Unit {0}) tt m c refl tt .0))
+
+module _ (n : ℕ) where
+  -- ---- a clock of the core
+
+  abbrev WithClock : Clock → Clock → Type 0
+  WithClock k l = l ≡ clock (k .kind) (k .moves) (k .zeroed) (withPending n (k .next))
+
   pub clock-aside : (c : Core) → clockOf (withPending n c) ≡ clock (clockOf c .kind) (clockOf c .moves) (clockOf c .zeroed) (withPending n (clockOf c .next))
   unfolding clockOf slotOf
-  clock-aside c = both-picked WithClock _ _ _ _ _ (λ e. slot-clock-aside _ (begun c)) (λ e. refl)
+  clock-aside c = both-picked WithClock _ _ _ _ _ (λ e. slot-pending n _ (begun c)) (λ e. refl)
 
   -- ---- clocks
 

@@ -19,11 +19,11 @@ use Rattle.rules.specs.Clock.{Clock}
 use Rattle.rules.specs.Exactly.{Awaited, byWR0, byWR1, byWR2, byWR4, byTiming, byMaskCommand, tail, LedTo, fromNothing, byByte, pendingNumbers, among, distinct, LowestBit, Unlisted, PendingExact}
 use Rattle.rules.specs.Opened.{opened}
 use Rattle.rules.specs.declared.Core.{Core}
-use Rattle.rules.proofs.Choice.{clash, row-passed, row-taken, not-of-false, either, every-stop, every-stop-later, any-cases, any-none, means-so}
+use Rattle.rules.proofs.Choice.{clash, row-passed, row-taken, not-of-false, either, every-stop, every-at, any-cases, any-none, means-so}
 use Rattle.rules.proofs.Trying.{allBelow, below-at}
 use Rattle.rules.proofs.Parameters.{each-number, wr0-valid, timing-valid, a-timing-valid, b-timing-valid, wr4-valid, nothing-valid, prescaler-valid, mask-valid, rest-valid, after-valid}
 use Rattle.rules.proofs.Aside.{carried-aside, read-aside, clock-aside}
-use Rattle.rules.proofs.Calls.{invalid-write, invalid-read, invalid-grant}
+use Rattle.rules.proofs.Calls.{invalid-write, invalid-read, invalid-set-speed, invalid-grant}
 
 valid-listed : (p : ℕ) → validPending p ≡ true → among p pendingNumbers ≡ true
 unfolding opened allBelow among
@@ -171,11 +171,7 @@ unfolding validIf validCoreIf
 unlisted-invalid c sum e =
     not-of-false _
     (every-stop _ _
-    (every-stop-later _ _
-    (every-stop-later _ _
-    (every-stop-later _ _
-    (every-stop-later _ _
-    (every-stop _ _ (either (validPending (c .pending)) (λ v. clash (sym e ∙ valid-listed _ v)) (λ v. v))))))))
+    (every-at 5 _ (either (validPending (c .pending)) (λ v. clash (sym e ∙ valid-listed _ v)) (λ v. v))))
 
 pub pending-exact : PendingExact
 unfolding opened among distinct
@@ -190,6 +186,7 @@ pending-exact =
       alone = λ byte c. ap (λ (d : Core). d .pending) (carried-aside (c .pending) (next (c .pending)) byte c);
       aloneInRead = λ c. ap (λ (b : Byte). b .core .pending) (read-aside (c .pending) c);
       aloneInClock = λ c. ap (λ (k : Clock). k .next .pending) (clock-aside (c .pending) c);
+      aloneInSpeed = λ c code. refl;
       listed =
           λ p.
           record {
@@ -200,5 +197,6 @@ pending-exact =
       once = refl;
       write = λ c k port byte e. invalid-write c k port byte (unlisted-invalid c (total k) e);
       read = λ c k port e. invalid-read c k port (unlisted-invalid c (total k) e);
+      speed = λ c k code e. invalid-set-speed c k code (unlisted-invalid c (total k) e);
       granted = λ σ s n e. invalid-grant σ s n (unlisted-invalid (s .world .core) (total (s .clocks)) e);
     }

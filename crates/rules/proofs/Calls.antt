@@ -8,20 +8,23 @@ use mathlib.Core.List.{List, _∷_}
 use lib.ListN.{length}
 use borrow.Author.Tests.{leb-true, le-leb, le-ltb, ltb-false, eqb-true, eqb-false, eq-eqb, ne-eqb, not-false, not-true}
 use Rattle.rules.specs.Choice.{pick, Test, test, firstHit}
+use Rattle.rules.specs.Parts.{withSpeed}
+use Rattle.rules.specs.Speed.{fullSpeed, atSpeed}
 use Rattle.rules.specs.Slots.{busHeld}
 use Rattle.rules.specs.PowerOn.{powerOn, noClocks}
-use Rattle.rules.specs.Validity.{valid, total, most64, validIf}
+use Rattle.rules.specs.Validity.{validCore, valid, total, most64, validIf}
 use Rattle.rules.specs.Facts.{ValidParts, InRange, Kept}
 use Rattle.rules.specs.Buffers.{Store, flat, Buffers}
 use Rattle.rules.specs.World.{System, clocked}
-use Rattle.rules.specs.Refusals.{wrongPort, accessRefusal, lentRefusal, grantRefusal, grantRefusalIf, accessRefusalIf, lentRefusalIf}
-use Rattle.rules.specs.Calls.{Reply, Answer, accepted, refused, unlessRefused, writeReply, readReply, write, read, grantNumber, grant, readReplyOver, grantOver, writeReplyOver}
+use Rattle.rules.specs.Refusals.{wrongPort, accessRefusal, speedRefusal, lentRefusal, grantRefusal, grantRefusalIf, accessRefusalIf, speedRefusalIf, lentRefusalIf}
+use Rattle.rules.specs.Calls.{Reply, Answer, accepted, refused, unlessRefused, writeReply, readReply, speedReply, write, read, grantNumber, grant, readReplyOver, speedReplyOver, grantOver, writeReplyOver}
 use Rattle.rules.specs.Keeping.{ValidDevice, StaysValid, StaysValidByTest, HandsBack}
 use Rattle.rules.specs.Opened.{opened}
 use Rattle.rules.specs.declared.Clocks.{Clocks}
 use Rattle.rules.specs.declared.Core.{Core}
 use Rattle.rules.proofs.Choice.{pick-cases, pick-true, pick-false, either, all-true, true-all}
 use Rattle.rules.proofs.Validity.{core-parts, parts-core}
+use Rattle.rules.proofs.Steady.{steady-control, kept-from, kept-steady, kept-slot, kept-progress}
 use Rattle.rules.proofs.Writing.{write-kept}
 use Rattle.rules.proofs.Reading.{read-kept}
 use Rattle.rules.proofs.Clock.{clock-kept}
@@ -56,6 +59,18 @@ access c sum port e =
     let i = missed _ _ (tells 1 _) (h .1) in
     let j = missed _ _ (tells 2 _) (i .1) in
     record { state = not-false _ (h .0); known = i .0; free = j .0 }
+
+-- a speed call of a valid device, by a code
+pub record Speeds (c : Core) (sum code : ℕ) : Type 0 where
+  pub state : valid c sum ≡ true
+  pub known : code ≤ fullSpeed
+
+pub speeds : (c : Core) (sum code : ℕ) → speedRefusal c sum code ≡ 0 → Speeds c sum code
+unfolding speedRefusalIf
+speeds c sum code e =
+    let h = missed _ _ (tells 0 _) e in
+    let i = missed _ _ (tells 6 _) (h .1) in
+    record { state = not-false _ (h .0); known = leb-true _ _ (not-false _ (i .0)) }
 
 pub record Granted {M : Type 0} (σ : Store M) (c : Core) (sum : ℕ) (b : Buffers M) (n : ℕ) : Type 0 where
   pub state : valid c sum ≡ true
@@ -139,6 +154,15 @@ read-valid : (c : Core) (k : Clocks) (port : ℕ) → ValidDevice c k → ValidD
 unfolding readReplyOver
 read-valid c k port s = unless-valid _ _ _ c k (λ e. read-kept c (s .core)) s
 
+speed-kept : (c : Core) (code : ℕ) → code ≤ fullSpeed → Kept c → Kept (atSpeed code c)
+speed-kept c code h k =
+    let s = kept-steady c k in
+    kept-from _ (steady-control s (withSpeed code (c .control)) (s .prescaler) h) (kept-slot c k) (kept-progress c k)
+
+speed-valid : (c : Core) (k : Clocks) (code : ℕ) → ValidDevice c k → ValidDevice (speedReply c k code .core) (speedReply c k code .clocks)
+unfolding speedReplyOver
+speed-valid c k code s = unless-valid _ _ _ c k (λ e. speed-kept c code (speeds c (total k) code e .known) (s .core)) s
+
 abbrev pub ValidSystem : {M : Type 0} → System M → Type 0
 ValidSystem s = ValidDevice (s .world .core) (s .clocks)
 
@@ -168,6 +192,10 @@ read-refused : (c : Core) (k : Clocks) (port : ℕ) → (readReply c k port .ans
 unfolding readReplyOver
 read-refused c k port = unless-refused _ _ _ c k
 
+speed-refused : (c : Core) (k : Clocks) (code : ℕ) → (speedReply c k code .answered .number ≡ 0 → ⊥) → speedReply c k code ≡ record { answered = refused (speedRefusal c (total k) code); core = c; clocks = k }
+unfolding speedReplyOver
+speed-refused c k code = unless-refused _ _ _ c k
+
 -- ---- a grant by its number
 
 module _ {M : Type 0} (σ : Store M) where
@@ -187,6 +215,10 @@ pub invalid-access : (c : Core) (sum port : ℕ) → not (valid c sum) ≡ true 
 unfolding accessRefusalIf firstHit
 invalid-access c sum port e = pick-true _ _ _ e
 
+pub invalid-speed : (c : Core) (sum code : ℕ) → not (valid c sum) ≡ true → speedRefusal c sum code ≡ 1
+unfolding speedRefusalIf firstHit
+invalid-speed c sum code e = pick-true _ _ _ e
+
 pub invalid-lent : (c : Core) (sum memory latches n : ℕ) → not (valid c sum) ≡ true → lentRefusal c sum memory latches n ≡ 1
 unfolding lentRefusalIf firstHit
 invalid-lent c sum memory latches n e = pick-true _ _ _ e
@@ -204,6 +236,10 @@ pub invalid-read : (c : Core) (k : Clocks) (port : ℕ) → not (valid c (total 
 unfolding readReplyOver
 invalid-read c k port e = unless-one _ _ _ c k (invalid-access c (total k) port e)
 
+pub invalid-set-speed : (c : Core) (k : Clocks) (code : ℕ) → not (valid c (total k)) ≡ true → speedReply c k code ≡ record { answered = refused 1; core = c; clocks = k }
+unfolding speedReplyOver
+invalid-set-speed c k code e = unless-one _ _ _ c k (invalid-speed c (total k) code e)
+
 pub invalid-grant : {M : Type 0} (σ : Store M) (s : System M) (n : ℕ) → not (valid (s .world .core) (total (s .clocks))) ≡ true → grant σ s n ≡ record { answered = refused 1; system = s }
 unfolding grantRefusalIf
 invalid-grant σ s n e = sym (grant-refuses σ s n 1 (invalid-lent (s .world .core) (total (s .clocks)) _ _ n e) (λ z. omega (arith, z)))
@@ -212,10 +248,13 @@ invalid-grant σ s n e = sym (grant-refuses σ s n 1 (invalid-lent (s .world .co
 pub flat-memory : (m : List ℕ) → flat .refusal m ≡ 0 → length m ≡ 65536
 flat-memory m e = let h = missed _ _ (tells 3 _) e in eqb-true _ _ (not-false _ (h .0))
 
--- the sum of a valid device's clock counts fits
-pub valid-parts : (c : Core) (sum : ℕ) → valid c sum ≡ true → ValidParts c
+-- a valid device has a valid core, and the sum of its clock counts fits
+pub valid-core : (c : Core) (sum : ℕ) → valid c sum ≡ true → validCore c ≡ true
 unfolding validIf
-valid-parts c sum e = core-parts c (all-true _ e .0)
+valid-core c sum e = all-true _ e .0
+
+pub valid-parts : (c : Core) (sum : ℕ) → valid c sum ≡ true → ValidParts c
+valid-parts c sum e = core-parts c (valid-core c sum e)
 
 pub valid-fits : (c : Core) (sum : ℕ) → valid c sum ≡ true → sum ≤ most64
 unfolding validIf
@@ -226,7 +265,14 @@ valid-fits c sum e = leb-true _ _ (all-true _ e .1 .0)
 module _ {M : Type 0} (σ : Store M) where
   pub stays-valid : StaysValid σ
   stays-valid =
-      record { power-on = power-on-valid; write = write-valid; read = read-valid; clock = clock-kept; granted = grant-valid σ }
+      record {
+        power-on = power-on-valid;
+        write = write-valid;
+        read = read-valid;
+        speed = speed-valid;
+        clock = clock-kept;
+        granted = grant-valid σ;
+      }
 
   pub stays-valid-by-test : StaysValidByTest σ
   stays-valid-by-test =
@@ -234,9 +280,10 @@ module _ {M : Type 0} (σ : Store M) where
         power-on = device-valid _ _ power-on-valid;
         write = λ c k port byte b r v. device-valid _ _ (write-valid c k port byte b (valid-device c k r v));
         read = λ c k port r v. device-valid _ _ (read-valid c k port (valid-device c k r v));
+        speed = λ c k code r v. device-valid _ _ (speed-valid c k code (valid-device c k r v));
         clock = λ c r v. parts-core _ (clock-kept c (record { valid = core-parts c v; range = r }) .valid);
         granted = λ s n r v. device-valid _ _ (grant-valid σ s n (valid-device _ _ r v));
       }
 
   pub hands-back : HandsBack σ
-  hands-back = record { write = write-refused; read = read-refused; granted = grant-refused σ }
+  hands-back = record { write = write-refused; read = read-refused; speed = speed-refused; granted = grant-refused σ }

@@ -1,10 +1,11 @@
 -- Laws of choosing by a test.
 -- Assumes nothing.
-use Prim.Native.Nat.{ℕ}
+use Prim.Native.Nat.{ℕ, zero, suc}
 use native.Mathlib.Omega.{arith}
 use mathlib.Core.Path.{_≡_, refl, sym, _∙_}
 use mathlib.Core.Bool.{Bool, true, false, _&&_, _||_, not}
 use mathlib.Core.List.{List, [], _∷_}
+use lib.ListN.{getD}
 use borrow.Author.Tests.{not-true, not-false}
 use Rattle.rules.specs.Choice.{pick, Row, _⇒_, firstOf, every, any, means}
 
@@ -134,6 +135,12 @@ pub every-stop-later : (t : Bool) (ts : List Bool) → every ts ≡ false → ev
 unfolding every pick
 every-stop-later true ts e = e
 every-stop-later false ts e = refl
+
+-- wherever in the list it stands
+pub every-at : (k : ℕ) (ts : List Bool) → getD ts k true ≡ false → every ts ≡ false
+every-at k [] e = clash (sym e)
+every-at zero (t ∷ ts) e = every-stop t ts e
+every-at (suc k) (t ∷ ts) e = every-stop-later t ts (every-at k ts e)
 
 pub every-go : (t : Bool) (ts : List Bool) → t ≡ true → every (t ∷ ts) ≡ every ts
 unfolding every pick

@@ -1,7 +1,7 @@
 -- One clock keeps a valid core valid. What is needed of a slot's n-th clock: the slot's figures are valid, n is within the
 -- length, and up to the bus time the block is not finished, so the counter has room for one more.
 -- Assumes nothing.
-use Prim.Native.Nat.{ℕ, _+_, _≤_, _<_}
+use Prim.Native.Nat.{ℕ, _+_, _*_, _≤_, _<_}
 use native.Mathlib.Omega.{arith}
 use mathlib.Core.Path.{_≡_, refl, sym, subst}
 use mathlib.Core.Bool.{Bool, true, false}
@@ -12,12 +12,14 @@ use borrow.Author.Tests.{ltb-true, eqb-true, eqb-false}
 use Rattle.rules.specs.Choice.{every}
 use Rattle.rules.specs.Parts.{withSlot}
 use Rattle.rules.specs.Blocks.{blockCount, finished}
-use Rattle.rules.specs.Slots.{noSlot, unmoved, slotLength, newSlot, slotOf}
+use Rattle.rules.specs.Slots.{noSlot, unmoved, larger, slotLength, newSlot, slotOf}
+use Rattle.rules.specs.Validity.{mostBus}
 use Rattle.rules.specs.Facts.{Kept, SlotLength, busTime, prescaled, ValidSlot, resting, running}
 use Rattle.rules.specs.Clock.{Clock, moved, withElapsed, movesAt, movedAt, Ending, slotEnd, clockEnd, slotClock, begun, clockOf}
 use Rattle.rules.specs.declared.Slot.{Slot}
 use Rattle.rules.specs.declared.Core.{Core}
 use Rattle.rules.proofs.Choice.{clash, pick-cases, all-true}
+use Rattle.rules.proofs.Speed.{BusTime, bus-range}
 use Rattle.rules.proofs.Blocks.{unfinished-room, reloaded-unfinished}
 use Rattle.rules.proofs.Slots.{unmoved-cases, unmoved-first, unmoved-below}
 use Rattle.rules.proofs.Ports.{good-advanced, good-loaded}
@@ -30,7 +32,7 @@ record Turn (n : ℕ) (c : Core) : Type 0 where
   first : 0 < n
   last : n ≤ c .slot .length
   least : 4 ≤ c .slot .bus
-  most : c .slot .bus ≤ 8
+  most : c .slot .bus ≤ mostBus
   length : SlotLength (c .slot)
   unfinished : n ≤ c .slot .bus → finished (c .block) ≡ false
 
@@ -40,7 +42,7 @@ turn-running n c t h = running (t .on) (record { elapsed = t .first; below = h; 
   where
     same : SlotLength (c .slot) → SlotLength (withElapsed n c .slot)
     same (busTime e) = busTime e
-    same (prescaled l m e) = prescaled l m e
+    same (prescaled l m e b) = prescaled l m e b
 
 moved-steady : (c : Core) → SteadyCore c → finished (c .block) ≡ false → SteadyCore (moved c)
 moved-steady c s e =
@@ -88,27 +90,36 @@ slot-kept n c s t =
 
 -- the slot that the registers start
 pub new-length : (c : Core) → c .control .prescaler < 256 → SlotLength (newSlot c)
-unfolding slotLength
+unfolding slotLength larger
 new-length c h =
     pick-cases
-    (λ n. SlotLength (record { elapsed = 0; bus = c .a .cycle + c .b .cycle; length = n; burst = c .control .burst }))
+    (λ n. SlotLength (record { elapsed = 0; bus = newSlot c .bus; length = n; burst = c .control .burst }))
     _ _ _ (λ e. busTime refl)
     (λ (e : eqb (c .control .prescaler) 0 ≡ false).
-    let n = eqb-false (c .control .prescaler) 0 e in prescaled (omega (arith, n)) (omega arith) (omega arith))
+    let n = eqb-false (c .control .prescaler) 0 e in
+    pick-cases
+    (λ n. SlotLength (record { elapsed = 0; bus = newSlot c .bus; length = n; burst = c .control .burst }))
+    (ltb (newSlot c .bus) (32 * c .control .prescaler)) _ _
+    (λ l. prescaled (omega (arith, n)) (omega (arith, h)) (omega arith) (le-of-lt (ltb-true _ _ l))) (λ l. busTime refl))
+
+-- and its bus time
+pub new-bus : (c : Core) → SteadyCore c → BusTime (newSlot c .bus)
+new-bus c s =
+    bus-range (c .control .speed) _ _ (s .a .cycle .least) (s .a .cycle .most) (s .b .cycle .least) (s .b .cycle .most)
 
 -- a slot is not empty
 length-some : (s : Slot) → 4 ≤ s .bus → SlotLength s → 1 ≤ s .length
 length-some s h (busTime e) = omega arith
-length-some s h (prescaled l m e) = omega arith
+length-some s h (prescaled l m e b) = omega arith
 
 first-turn : (c : Core) → SteadyCore c → c .enabled ≡ true → finished (c .block) ≡ false → Turn 1 (withSlot (newSlot c) c)
 first-turn c s on e =
     record {
       on = on;
       first = omega arith;
-      last = length-some (newSlot c) (omega (arith, s .a .cycle, s .b .cycle)) (new-length c (s .prescaler));
-      least = omega (arith, s .a .cycle, s .b .cycle);
-      most = omega (arith, s .a .cycle, s .b .cycle);
+      last = length-some (newSlot c) (new-bus c s .least) (new-length c (s .prescaler));
+      least = new-bus c s .least;
+      most = new-bus c s .most;
       length = new-length c (s .prescaler);
       unfinished = λ h. e;
     }

@@ -7,7 +7,7 @@ use lib.ListN.{set, length-set}
 use Rattle.rules.specs.Bytes.{AreBytes}
 use Rattle.rules.specs.Buffers.{Store}
 use Rattle.rules.specs.World.{System}
-use Rattle.rules.specs.Entries.{Outside, poked, Entry, portWrite, portRead, clockGrant, otherGrant, outsideChange, bytesWritten, Run, enter, run, systemAtPowerOn, PokesKeepLength, runOver}
+use Rattle.rules.specs.Entries.{Outside, poked, Entry, portWrite, portRead, speedCall, clockGrant, otherGrant, outsideChange, bytesWritten, Run, enter, run, systemAtPowerOn, PokesKeepLength, runOver}
 use Rattle.rules.proofs.Calls.{ValidSystem, stays-valid}
 
 module _ {M C : Type 0} (σ : Store M) (ω : Outside M C) where
@@ -16,6 +16,7 @@ module _ {M C : Type 0} (σ : Store M) (ω : Outside M C) where
   unfolding bytesWritten AreBytes
   entry-valid (portWrite port byte) es s b v = (stays-valid σ .write _ _ port byte (b .0) v, b .1)
   entry-valid (portRead port) es s b v = (stays-valid σ .read _ _ port v, b)
+  entry-valid (speedCall code) es s b v = (stays-valid σ .speed _ _ code v, b)
   entry-valid (clockGrant n) es s b v = (stays-valid σ .granted _ n v, b)
   entry-valid (otherGrant n o wrong) es s b v = (stays-valid σ .granted _ n v, b)
   entry-valid (outsideChange x) es s b v = (v, b)

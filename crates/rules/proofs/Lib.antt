@@ -2,10 +2,12 @@ pub mod Choice
 pub mod Trying
 pub mod Bytes
 pub mod Blocks
+pub mod Speed
 pub mod Validity
 pub mod Slots
 pub mod Ports
 pub mod Parameters
+pub mod Framing
 pub mod Aside
 pub mod Sequences
 pub mod Selection
@@ -27,5 +29,8 @@ pub mod Splitting
 pub mod Accounts
 pub mod SplittingLists
 pub mod Reached
+pub mod Alike
 pub mod Recheck
+pub mod Slowing
+pub mod Unslowed
 pub mod Numbered

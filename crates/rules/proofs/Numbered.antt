@@ -11,15 +11,17 @@ use borrow.Author.Tests.{eqb-true}
 use Rattle.rules.specs.Parts.{withPending}
 use Rattle.rules.specs.Pending.{next, pendingAfter, validPending}
 use Rattle.rules.specs.PowerOn.{powerOn}
-use Rattle.rules.specs.Validity.{total, validCoreIf, validIf, validOver, valid}
+use Rattle.rules.specs.Speed.{atSpeed}
+use Rattle.rules.specs.Validity.{total, validCoreIf, validCore, validIf, valid}
+use Rattle.rules.specs.Steering.{validOver}
 use Rattle.rules.specs.Registers.{carriedOutAs, inMode, effectOver, writtenOver, written}
 use Rattle.rules.specs.Readback.{Byte}
 use Rattle.rules.specs.Clock.{clockOf}
 use Rattle.rules.specs.Buffers.{Store, Buffers}
 use Rattle.rules.specs.World.{SystemOf, system}
-use Rattle.rules.specs.Refusals.{accessRefusalIf, accessRefusalOver, accessRefusal, grantRefusalIf}
-use Rattle.rules.specs.Calls.{ReplyOf, Reply, AnswerOf, Answer, unlessRefused, beside, writeReplyOver, writeReply, readReplyOver, readReply, grantNumberOver, grantNumber, grantOver, grant}
-use Rattle.rules.specs.Entries.{Outside, Entry, portWrite, portRead, clockGrant, otherGrant, outsideChange, besideBuffers, enterOver, enter, runOver, run}
+use Rattle.rules.specs.Refusals.{accessRefusalIf, accessRefusalOver, accessRefusal, speedRefusalIf, grantRefusalIf}
+use Rattle.rules.specs.Calls.{ReplyOf, Reply, AnswerOf, Answer, unlessRefused, beside, writeReplyOver, writeReply, readReplyOver, readReply, speedReplyOver, speedReply, grantNumberOver, grantNumber, grantOver, grant}
+use Rattle.rules.specs.Entries.{Outside, Entry, portWrite, portRead, speedCall, clockGrant, otherGrant, outsideChange, besideBuffers, enterOver, enter, runOver, run}
 use Rattle.rules.specs.Sequences.{empty, follows, validSequence, parameterOf, bitOf, numberOf, SequenceCore, sequences, numbered}
 use Rattle.rules.specs.Numbered.{numberedSystem, SameRun, FromSequence, SequencesNumbered}
 use Rattle.rules.specs.Opened.{opened}
@@ -27,7 +29,7 @@ use Rattle.rules.specs.declared.Clocks.{Clocks}
 use Rattle.rules.specs.declared.Core.{Core}
 use Rattle.rules.proofs.Choice.{both-picked, all-true}
 use Rattle.rules.proofs.Trying.{allBelow, below-at}
-use Rattle.rules.proofs.Aside.{valid-aside, access-aside, grant-aside, carried-aside, read-aside, clocked-aside}
+use Rattle.rules.proofs.Aside.{valid-aside, access-aside, carried-aside, read-aside, clocked-aside}
 use Rattle.rules.proofs.Sequences.{number-valid, next-same, after-stands, number-once, sequenceOf, sequence-stands}
 
 abbrev Valid : SequenceCore → Type 0
@@ -39,14 +41,16 @@ Valid d = validSequence (d .pending) ≡ true
 valid-same : (d : SequenceCore) → Valid d → validPending (numberOf (d .pending)) ≡ validSequence (d .pending)
 valid-same d e = number-valid _ e ∙ sym e
 
+core-alike : (d : SequenceCore) → Valid d → validCore (numbered d) ≡ sequences .valid d
+core-alike d e = ap (λ (t : Bool). validCoreIf t (numbered d)) (valid-same d e) ∙ valid-aside _ _ (d .others)
+
 valid-alike : (d : SequenceCore) (sum : ℕ) → Valid d → valid (numbered d) sum ≡ validOver sequences d sum
-valid-alike d sum e =
-    ap (λ (t : Bool). validIf t (numbered d) sum) (valid-same d e) ∙ valid-aside _ _ (d .others) sum
+valid-alike d sum e = ap (λ (t : Bool). validIf t sum) (core-alike d e)
 
 -- a valid core has valid parameters
-if-valid : (t : Bool) (c : Core) (sum : ℕ) → validIf t c sum ≡ true → t ≡ true
+if-valid : (t : Bool) (c : Core) (sum : ℕ) → validIf (validCoreIf t c) sum ≡ true → t ≡ true
 unfolding validIf validCoreIf
-if-valid t c sum e = all-true _ (all-true _ e .0) .1 .1 .1 .1 .0
+if-valid t c sum e = all-true _ (all-true _ e .0) .1 .1 .1 .1 .1 .0
 
 also-valid : (d : SequenceCore) (sum : ℕ) → validOver sequences d sum ≡ true → valid (numbered d) sum ≡ true
 also-valid d sum e = valid-alike d sum (if-valid _ _ _ e) ∙ e
@@ -57,11 +61,11 @@ from-sequence c sum e =
     let s = sequence-stands (c .pending) v in
     record {
       device = record { pending = sequenceOf (c .pending); others = c };
-      valid = ap (λ (t : Bool). validIf t c sum) (s .0 ∙ sym v) ∙ e;
+      valid = ap (λ (t : Bool). validIf (validCoreIf t c) sum) (s .0 ∙ sym v) ∙ e;
       same = ap (λ (n : ℕ). withPending n c) (s .1);
     }
 
--- ---- a port write, and a port read
+-- ---- a port write, a port read, and a speed call
 
 -- the same answer, but for the number in place of a valid sequence
 record SameAnswer {M : Type 0} (a : AnswerOf SequenceCore M) (b : Answer M) : Type 0 where
@@ -71,7 +75,7 @@ record SameAnswer {M : Type 0} (a : AnswerOf SequenceCore M) (b : Answer M) : Ty
 
 access-same : (d : SequenceCore) (sum port : ℕ) → Valid d → accessRefusal (numbered d) sum port ≡ accessRefusalOver sequences d sum port
 access-same d sum port e =
-    ap (λ (t : Bool). accessRefusalIf t (numbered d) sum port) (valid-same d e) ∙ access-aside _ _ (d .others) sum port
+    ap (λ (t : Bool). accessRefusalIf t (numbered d) sum port) (core-alike d e) ∙ access-aside _ _ (d .others) sum port
 
 written-same : (port byte : ℕ) (d : SequenceCore) → Valid d → written port byte (numbered d) ≡ numbered (writtenOver sequences port byte d)
 unfolding effectOver
@@ -119,13 +123,18 @@ module _ {M : Type 0} where
       let r = read-aside (numberOf (d .pending)) (d .others) in
       reply-same b _ _ _ _ _ _ _ k (access-same d (total k) port e) (ap (λ (b : Byte). b .byte) r) (ap (λ (b : Byte). b .core) r) e e
 
+  speed-same : (b : Buffers M) (d : SequenceCore) (k : Clocks) (code : ℕ) → Valid d → SameReply b (speedReplyOver sequences d k code) (speedReply (numbered d) k code)
+  unfolding speedReplyOver
+  speed-same b d k code e =
+      reply-same b _ _ _ _ _ _ (atSpeed code (numbered d)) k
+      (ap (λ (t : Bool). speedRefusalIf t (total k) code) (core-alike d e)) refl refl e e
+
 -- ---- a grant
 
 module _ {M : Type 0} (σ : Store M) where
   number-same : (s : SystemOf SequenceCore M) (n : ℕ) → Valid (s .world .core) → grantNumber σ (numberedSystem s) n ≡ grantNumberOver sequences σ s n
   number-same s n e =
-      ap (λ (t : Bool). grantRefusalIf t σ (numbered (s .world .core)) (total (s .clocks)) (s .world .buffers) n) (valid-same (s .world .core) e)
-      ∙ grant-aside _ _ σ (s .world .core .others) (total (s .clocks)) (s .world .buffers) n
+      ap (λ (t : Bool). grantRefusalIf t σ (total (s .clocks)) (s .world .buffers) n) (core-alike (s .world .core) e)
 
   grant-same : (s : SystemOf SequenceCore M) (n : ℕ) → Valid (s .world .core) → SameAnswer (grantOver sequences clockOf σ s n) (grant σ (numberedSystem s) n)
   unfolding grantOver
@@ -148,6 +157,8 @@ module _ {M C : Type 0} (σ : Store M) (ω : Outside M C) where
       write-same (s .world .buffers) (s .world .core) (s .clocks) port byte e
   entry-same (portRead port) s e =
       read-same (s .world .buffers) (s .world .core) (s .clocks) port e
+  entry-same (speedCall code) s e =
+      speed-same (s .world .buffers) (s .world .core) (s .clocks) code e
   entry-same (clockGrant n) s e = grant-same σ s n e
   entry-same (otherGrant n b wrong) s e =
       let h = grant-same σ (besideBuffers b s) n e in

@@ -22,23 +22,23 @@ use Rattle.rules.specs.Commands.{enable, readingCommand, command}
 use Rattle.rules.specs.Registers.{wr3, register, parameter, carriedOut, inMode, written, effectOver, carriedOutAs}
 use Rattle.rules.specs.Readback.{Byte, readByte}
 use Rattle.rules.specs.Clock.{cpuClock, Clock, clock, stopped, movedAt, Ending, slotEnd, clockEnd, slotClock, begun, clockOf}
-use Rattle.rules.specs.Buffers.{Store, Buffers}
-use Rattle.rules.specs.World.{System, stepCountedBy, clockedBy, clocked}
-use Rattle.rules.specs.Refusals.{grantRefusal}
-use Rattle.rules.specs.Calls.{Answered, Answer, accepted, grantNumber, grantBy, grant, Reply, unlessRefused, writeReply, readReply, readReplyOver, grantOver, writeReplyOver}
-use Rattle.rules.specs.Entries.{Outside, Entry, portWrite, portRead, clockGrant, otherGrant, outsideChange, besideBuffers, Run, enterBy, enter, runBy, run, systemAtPowerOn, runOver}
-use Rattle.rules.specs.History.{Past, EntryNoted, History, notedUnless, grantNotedBy, clockPassedBy, clocksPassedBy, clocksPassed, noteEntryBy, noteEntry, historyBy, history}
+use Rattle.rules.specs.Buffers.{Store}
+use Rattle.rules.specs.World.{System, clocked}
+use Rattle.rules.specs.Calls.{Answered, Answer, grant, Reply, unlessRefused, writeReply, readReply, speedReply, readReplyOver, speedReplyOver, grantOver, writeReplyOver}
+use Rattle.rules.specs.Entries.{Outside, Entry, portWrite, portRead, speedCall, clockGrant, otherGrant, outsideChange, besideBuffers, Run, enterBy, enter, runBy, run, systemAtPowerOn, runOver}
+use Rattle.rules.specs.History.{Past, EntryNoted, History, noteEntryBy, noteEntry, historyBy, history}
 use Rattle.rules.specs.Recheck.{firstClockWithRecheck, clockWithRecheck, recheckHits, RecheckNeverHits, inWait, RecheckNearest, RecheckUnseen}
 use Rattle.rules.specs.Opened.{opened}
 use Rattle.rules.specs.declared.Clocks.{Clocks}
 use Rattle.rules.specs.declared.Core.{Core}
-use Rattle.rules.proofs.Choice.{clash, pick-true, pick-false, pick-cases, pick-both, both-picked, _⨾_, below, table, both-ways, not-of-false, either, all-true, true-all, every-stop, every-stop-later}
+use Rattle.rules.proofs.Choice.{clash, pick-true, pick-false, pick-cases, pick-both, _⨾_, below, table, both-ways, not-of-false, either, all-true, true-all, every-stop, every-stop-later}
 use Rattle.rules.proofs.Blocks.{reloaded-unfinished}
 use Rattle.rules.proofs.Validity.{core-parts, slot-facts, progress-facts}
 use Rattle.rules.proofs.Slots.{unmoved-first, free-settled}
 use Rattle.rules.proofs.Stretches.{clock-first, clock-later}
 use Rattle.rules.proofs.World.{clocked-zero, clocked-suc}
-use Rattle.rules.proofs.Calls.{access, granted, invalid-access, invalid-lent, valid-parts}
+use Rattle.rules.proofs.Calls.{access, invalid-access, invalid-speed, invalid-lent, valid-parts}
+use Rattle.rules.proofs.Alike.{Agrees, grant-same, entry-same, note-same}
 
 -- ---- where it does not hit
 
@@ -186,6 +186,10 @@ reply-unhit : (c : Core) (k : Clocks) (port : ℕ) → Unhit c → Unhit (readRe
 unfolding readReplyOver
 reply-unhit c k port h = unless-unhit _ _ _ c k (λ e. read-unhit c h) h
 
+speed-unhit : (c : Core) (k : Clocks) (code : ℕ) → Unhit c → Unhit (speedReply c k code .core)
+unfolding speedReplyOver recheckHits
+speed-unhit c k code h = unless-unhit _ _ _ c k (λ e. h) h
+
 grant-unhit : {M : Type 0} (σ : Store M) (s : System M) (n : ℕ) → Unhit (s .world .core) → Unhit (grant σ s n .system .world .core)
 unfolding grantOver
 grant-unhit σ s n h =
@@ -195,6 +199,7 @@ module _ {M C : Type 0} (σ : Store M) (ω : Outside M C) where
   entry-unhit : (e : Entry σ C) (s : System M) → Unhit (s .world .core) → Unhit (enter σ ω e s .system .world .core)
   entry-unhit (portWrite port byte) s h = write-unhit (s .world .core) (s .clocks) port byte h
   entry-unhit (portRead port) s h = reply-unhit (s .world .core) (s .clocks) port h
+  entry-unhit (speedCall code) s h = speed-unhit (s .world .core) (s .clocks) code h
   entry-unhit (clockGrant n) s h = grant-unhit σ s n h
   entry-unhit (otherGrant n b wrong) s h = grant-unhit σ (besideBuffers b s) n h
   entry-unhit (outsideChange x) s h = h
@@ -249,41 +254,15 @@ unfolding validIf
 hit-invalid c sum h =
     not-of-false _ (every-stop _ _ (either (validCore c) (λ v. clash (sym (valid-unhit c v) ∙ h)) (λ v. v)))
 
--- ---- grants
-
-module _ {M : Type 0} (σ : Store M) where
-  -- a grant is accepted of a valid core alone
-  accepted-unhit : (c : Core) (sum : ℕ) (b : Buffers M) (n : ℕ) → eqb (grantRefusal σ c sum b n) 0 ≡ true → Unhit c
-  accepted-unhit c sum b n e = parts-unhit c (valid-parts c sum (granted σ c sum b n (eqb-true _ _ e) .state))
-
-  step-same : (s : System M) → clockWithRecheck (s .world .core) ≡ clockOf (s .world .core) → stepCountedBy clockWithRecheck σ s ≡ stepCountedBy clockOf σ s
-  step-same s e = ap (λ (x : Clock). stepCountedBy (λ c. x) σ s) e
-
-  clocked-same : (n : ℕ) (s : System M) → Unhit (s .world .core) → clockedBy clockWithRecheck σ n s ≡ clocked σ n s
-  unfolding clockedBy
-  clocked-same zero s h = refl
-  clocked-same (suc n) s h =
-      ap (stepCountedBy clockWithRecheck σ) (clocked-same n s h)
-      ∙ step-same (clocked σ n s) (clocks-same (clocked σ n s .world .core) (clocked-unhit σ s n h))
-
-  grants-same : (s : System M) (n : ℕ) → grantBy clockWithRecheck σ s n ≡ grant σ s n
-  unfolding grantOver
-  grants-same s n =
-      both-picked _≡_ (eqb (grantNumber σ s n) 0) _ _ _ _
-      (λ e. ap (λ (t : System M). record { answered = accepted 0; system = t }) (clocked-same n s (accepted-unhit _ _ _ n e)))
-      (λ e. refl)
-
 -- ---- runs
 
+-- the tests are one, and the clocks agree of a valid core
+agrees : (c : Core) → Agrees validCore clockWithRecheck Unhit clocks-same (λ c h. clock-unhit c) c
+agrees c = record { tests = refl; clocks = valid-unhit c }
+
 module _ {M C : Type 0} (σ : Store M) (ω : Outside M C) where
-  entry-same : (e : Entry σ C) (s : System M) → enterBy clockWithRecheck σ ω e s ≡ enter σ ω e s
-  entry-same (portWrite port byte) s = refl
-  entry-same (portRead port) s = refl
-  entry-same (clockGrant n) s = grants-same σ s n
-  entry-same (otherGrant n b wrong) s =
-      ap (λ (a : Answer M). record { answered = a .answered; system = besideBuffers (s .world .buffers) (a .system) })
-      (grants-same σ (besideBuffers b s) n)
-  entry-same (outsideChange x) s = refl
+  entry-alike : (e : Entry σ C) (s : System M) → enterBy clockWithRecheck σ ω e s ≡ enter σ ω e s
+  entry-alike e s = entry-same _ _ _ _ _ σ ω e s (agrees (s .world .core))
 
   -- the run of a list by its first answer
   abbrev behind : Answered → Run M → Run M
@@ -293,52 +272,24 @@ module _ {M C : Type 0} (σ : Store M) (ω : Outside M C) where
   unfolding runOver
   runs-same [] s = refl
   runs-same (e ∷ es) s =
-      ap (λ (a : Answer M). behind (a .answered) (runBy clockWithRecheck σ ω es (a .system))) (entry-same e s)
+      ap (λ (a : Answer M). behind (a .answered) (runBy clockWithRecheck σ ω es (a .system))) (entry-alike e s)
       ∙ ap (behind (enter σ ω e s .answered)) (runs-same es (enter σ ω e s .system))
 
 -- ---- histories
 
-module _ {M : Type 0} (σ : Store M) where
-  passed-unhit : (n : ℕ) (p : Past M) → Unhit (p .world .core) → Unhit (clocksPassed σ n p .world .core)
-  unfolding clocksPassedBy
-  passed-unhit zero p h = h
-  passed-unhit (suc n) p h = clock-unhit (clocksPassed σ n p .world .core)
-
-  pass-same : (p : Past M) → clockWithRecheck (p .world .core) ≡ clockOf (p .world .core) → clockPassedBy clockWithRecheck σ p ≡ clockPassedBy clockOf σ p
-  pass-same p e = ap (λ (x : Clock). clockPassedBy (λ c. x) σ p) e
-
-  passed-same : (n : ℕ) (p : Past M) → Unhit (p .world .core) → clocksPassedBy clockWithRecheck σ n p ≡ clocksPassed σ n p
-  unfolding clocksPassedBy
-  passed-same zero p h = refl
-  passed-same (suc n) p h =
-      ap (clockPassedBy clockWithRecheck σ) (passed-same n p h)
-      ∙ pass-same (clocksPassed σ n p) (clocks-same (clocksPassed σ n p .world .core) (passed-unhit n p h))
-
-  noted-same : (b : Buffers M) (n : ℕ) (p : Past M) → grantNotedBy clockWithRecheck σ b n p ≡ grantNotedBy clockOf σ b n p
-  unfolding notedUnless
-  noted-same b n p =
-      ap (λ (x : Past M). record { number = grantRefusal σ (p .world .core) (p .sum) b n; past = x })
-      (both-picked _≡_ (eqb (grantRefusal σ (p .world .core) (p .sum) b n) 0) _ _ _ _
-      (λ e. passed-same n _ (accepted-unhit σ (p .world .core) (p .sum) b n e))
-      (λ e. refl))
-
 module _ {M C : Type 0} (σ : Store M) (ω : Outside M C) where
-  note-same : (e : Entry σ C) (p : Past M) → noteEntryBy clockWithRecheck σ ω e p ≡ noteEntry σ ω e p
-  note-same (portWrite port byte) p = refl
-  note-same (portRead port) p = refl
-  note-same (clockGrant n) p = noted-same σ (p .world .buffers) n p
-  note-same (otherGrant n b wrong) p = noted-same σ b n p
-  note-same (outsideChange x) p = refl
+  note-alike : (e : Entry σ C) (p : Past M) → noteEntryBy validCore clockWithRecheck σ ω e p ≡ noteEntry σ ω e p
+  note-alike e p = note-same _ _ _ _ _ σ ω e p (agrees (p .world .core))
 
   -- the history of a list by its first number
   abbrev after : ℕ → History M → History M
   after n h = record { numbers = n ∷ h .numbers; past = h .past }
 
-  histories-same : (es : List (Entry σ C)) (p : Past M) → historyBy clockWithRecheck σ ω es p ≡ history σ ω es p
+  histories-same : (es : List (Entry σ C)) (p : Past M) → historyBy validCore clockWithRecheck σ ω es p ≡ history σ ω es p
   unfolding historyBy
   histories-same [] p = refl
   histories-same (e ∷ es) p =
-      ap (λ (x : EntryNoted M). after (x .number) (historyBy clockWithRecheck σ ω es (x .past))) (note-same e p)
+      ap (λ (x : EntryNoted M). after (x .number) (historyBy validCore clockWithRecheck σ ω es (x .past))) (note-alike e p)
       ∙ ap (after (noteEntry σ ω e p .number)) (histories-same es (noteEntry σ ω e p .past))
 
 -- ---- the claims
@@ -355,6 +306,7 @@ recheck-never-hits =
           (run-unhit σ ω es (systemAtPowerOn m l) (off-unhit powerOn refl));
       kept = λ σ ω es s n h. clocked-unhit σ (run σ ω es s .system) n (run-unhit σ ω es s h);
       access = λ c sum port h. invalid-access c sum port (hit-invalid c sum h);
+      speed = λ c sum code h. invalid-speed c sum code (hit-invalid c sum h);
       grant = λ c sum memory latches n h. invalid-lent c sum memory latches n (hit-invalid c sum h);
     }
 
@@ -373,4 +325,4 @@ recheck-nearest =
     }
 
 pub recheck-unseen : RecheckUnseen
-recheck-unseen = record { clock = clocks-same; hit = clock-hit; grants = grants-same; runs = runs-same; histories = histories-same }
+recheck-unseen = record { clock = clocks-same; hit = clock-hit; grants = λ σ s n. grant-same _ _ _ _ _ σ s n (agrees (s .world .core)); runs = runs-same; histories = histories-same }

@@ -1,21 +1,23 @@
--- The number of a refusal depends on a few tests: each equation is computed for all of their values.
+-- The number of a refusal depends on a few tests: each equation is computed for all of their values. And validity by its
+-- facts.
 -- Assumes nothing.
-use Prim.Native.Nat.{ℕ}
+use Prim.Native.Nat.{ℕ, _<_}
 use mathlib.Core.Path.{_≡_, refl, sym}
 use mathlib.Core.Bool.{Bool, true, false, not}
 use mathlib.Core.List.{List, [], _∷_}
 use lib.Dec.{eqb, leb}
-use borrow.Author.Tests.{leb-true, eqb-true}
-use Rattle.rules.specs.Choice.{pick, every, test, firstHit}
-use Rattle.rules.specs.Validity.{total}
+use borrow.Author.Tests.{leb-true, lt-leb, eqb-true}
+use Rattle.rules.specs.Choice.{pick, every, any, test, firstHit}
+use Rattle.rules.specs.Validity.{validCoreIf, validIf, valid, total}
 use Rattle.rules.specs.Buffers.{flat, Buffers}
 use Rattle.rules.specs.World.{System}
-use Rattle.rules.specs.Refusals.{accessRefusal, grantRefusalIf, accessRefusalIf, lentRefusalIf}
-use Rattle.rules.specs.Calls.{Answer, writeReply, readReply, grantNumber, grant, readReplyOver, grantOver, writeReplyOver}
-use Rattle.rules.specs.Exactly.{AccessExact, GrantExact, RefusalsExact}
+use Rattle.rules.specs.Refusals.{accessRefusal, speedRefusal, grantRefusalIf, accessRefusalIf, speedRefusalIf, lentRefusalIf}
+use Rattle.rules.specs.Calls.{Answer, writeReply, readReply, speedReply, grantNumber, grant, readReplyOver, speedReplyOver, grantOver, writeReplyOver}
+use Rattle.rules.specs.Exactly.{ValidExact, AccessExact, SpeedRefusalExact, GrantExact, RefusalsExact}
 use Rattle.rules.specs.declared.Clocks.{Clocks}
 use Rattle.rules.specs.declared.Core.{Core}
-use Rattle.rules.proofs.Choice.{pick-cases}
+use Rattle.rules.proofs.Choice.{pick-cases, every-stop, every-at}
+use Rattle.rules.proofs.Validity.{core-parts, parts-core, port-cycle, cycle-port, readback-reading, reading-readback, slot-facts, facts-slot}
 use Rattle.rules.proofs.Calls.{unless-number}
 
 -- the number of an access by its three tests: valid, a wrong port, the bus held
@@ -38,6 +40,24 @@ unfolding accessRefusalIf
 access-exact c sum port =
     let h = three-tests _ _ _ in
     record { one = h .one; two = h .two; three = h .three; none = h .none; most = leb-true _ _ (h .most) }
+
+-- the number of a speed call by its two tests: valid, a code
+record TwoTests (v s : Bool) (number : ℕ) : Type 0 where
+  one : eqb number 1 ≡ not v
+  seven : eqb number 7 ≡ every (v ∷ not s ∷ [])
+  none : eqb number 0 ≡ every (v ∷ s ∷ [])
+  other : any (eqb number 0 ∷ eqb number 1 ∷ eqb number 7 ∷ []) ≡ true
+
+two-tests : (v s : Bool) → TwoTests v s (firstHit (test 1 (not v) ∷ test 7 (not s) ∷ []))
+unfolding firstHit every any pick
+two-tests false s = record { one = refl; seven = refl; none = refl; other = refl }
+two-tests true true = record { one = refl; seven = refl; none = refl; other = refl }
+two-tests true false = record { one = refl; seven = refl; none = refl; other = refl }
+
+pub speed-exact : (c : Core) (sum code : ℕ) → SpeedRefusalExact c sum code
+unfolding speedRefusalIf
+speed-exact c sum code =
+    let h = two-tests _ _ in record { one = h .one; seven = h .seven; none = h .none; other = h .other }
 
 -- the number of a grant with the flat memory by its four tests: valid, memory and latches of their length, too many clocks
 record FourTests (v m l x : Bool) (number : ℕ) : Type 0 where
@@ -79,6 +99,24 @@ grant-exact c sum b n =
       other = (h .not-two, h .not-three, leb-true _ _ (h .most));
     }
 
+-- ---- validity
+
+unspeedy : (c : Core) (sum : ℕ) → 3 < c .control .speed → valid c sum ≡ false
+unfolding validIf validCoreIf
+unspeedy c sum h =
+    every-stop _ _
+    (every-at 3 _ (lt-leb (c .control .speed) 3 h))
+
+pub valid-exact : ValidExact
+valid-exact =
+    record {
+      parts = λ c. record { to = core-parts c; from = parts-core c };
+      port = λ p. record { to = port-cycle p; from = cycle-port p };
+      readback = λ r. record { to = readback-reading r; from = reading-readback r };
+      slot = λ t s. record { to = slot-facts t s; from = facts-slot t s };
+      speed = unspeedy;
+    }
+
 -- each call answers with its number
 write-number : (c : Core) (k : Clocks) (port byte : ℕ) → writeReply c k port byte .answered .number ≡ accessRefusal c (total k) port
 unfolding writeReplyOver
@@ -88,6 +126,10 @@ read-number : (c : Core) (k : Clocks) (port : ℕ) → readReply c k port .answe
 unfolding readReplyOver
 read-number c k port = unless-number _ _ _ c k
 
+speed-number : (c : Core) (k : Clocks) (code : ℕ) → speedReply c k code .answered .number ≡ speedRefusal c (total k) code
+unfolding speedReplyOver
+speed-number c k code = unless-number _ _ _ c k
+
 grant-number : (s : System (List ℕ)) (n : ℕ) → grant flat s n .answered .number ≡ grantNumber flat s n
 unfolding grantOver
 grant-number s n =
@@ -95,4 +137,12 @@ grant-number s n =
 
 pub refusals-exact : RefusalsExact
 refusals-exact =
-    record { write = write-number; read = read-number; granted = grant-number; access = access-exact; grants = grant-exact }
+    record {
+      write = write-number;
+      read = read-number;
+      speed = speed-number;
+      granted = grant-number;
+      access = access-exact;
+      speeds = speed-exact;
+      grants = grant-exact;
+    }

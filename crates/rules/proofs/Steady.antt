@@ -4,6 +4,7 @@ use Prim.Native.Nat.{ℕ, _≤_, _<_}
 use mathlib.Core.Path.{_≡_}
 use mathlib.Core.Bool.{true, false}
 use Rattle.rules.specs.Blocks.{finished}
+use Rattle.rules.specs.Speed.{fullSpeed}
 use Rattle.rules.specs.Slots.{unmoved}
 use Rattle.rules.specs.Pending.{validPending}
 use Rattle.rules.specs.Facts.{Kept, ValidReading, ValidSlot}
@@ -22,6 +23,7 @@ pub record Steady (x y : Port) (k : Block) (t : Control) (r : Readback) (p : ℕ
   pub counter : k .counter ≤ 65536
   pub length : k .length < 65536
   pub prescaler : t .prescaler < 256
+  pub speed : t .speed ≤ fullSpeed
   pub readback : ValidReading r
   pub pending : validPending p ≡ true
 
@@ -33,27 +35,27 @@ SteadyCore c = Steady (c .a) (c .b) (c .block) (c .control) (c .readback) (c .pe
 module _ {a b : Port} {k : Block} {t : Control} {r : Readback} {p : ℕ} (s : Steady a b k t r p) where
   pub steady-a : {x : Port} → GoodPort x → Steady x b k t r p
   steady-a g =
-      record { a = g; b = s .b; counter = s .counter; length = s .length; prescaler = s .prescaler; readback = s .readback; pending = s .pending }
+      record { a = g; b = s .b; counter = s .counter; length = s .length; prescaler = s .prescaler; speed = s .speed; readback = s .readback; pending = s .pending }
 
   pub steady-b : {x : Port} → GoodPort x → Steady a x k t r p
   steady-b g =
-      record { a = s .a; b = g; counter = s .counter; length = s .length; prescaler = s .prescaler; readback = s .readback; pending = s .pending }
+      record { a = s .a; b = g; counter = s .counter; length = s .length; prescaler = s .prescaler; speed = s .speed; readback = s .readback; pending = s .pending }
 
   pub steady-block : (x : Block) → x .counter ≤ 65536 → x .length < 65536 → Steady a b x t r p
   steady-block x h l =
-      record { a = s .a; b = s .b; counter = h; length = l; prescaler = s .prescaler; readback = s .readback; pending = s .pending }
+      record { a = s .a; b = s .b; counter = h; length = l; prescaler = s .prescaler; speed = s .speed; readback = s .readback; pending = s .pending }
 
-  pub steady-control : (x : Control) → x .prescaler < 256 → Steady a b k x r p
-  steady-control x h =
-      record { a = s .a; b = s .b; counter = s .counter; length = s .length; prescaler = h; readback = s .readback; pending = s .pending }
+  pub steady-control : (x : Control) → x .prescaler < 256 → x .speed ≤ fullSpeed → Steady a b k x r p
+  steady-control x h v =
+      record { a = s .a; b = s .b; counter = s .counter; length = s .length; prescaler = h; speed = v; readback = s .readback; pending = s .pending }
 
   pub steady-readback : (x : Readback) → ValidReading x → Steady a b k t x p
   steady-readback x v =
-      record { a = s .a; b = s .b; counter = s .counter; length = s .length; prescaler = s .prescaler; readback = v; pending = s .pending }
+      record { a = s .a; b = s .b; counter = s .counter; length = s .length; prescaler = s .prescaler; speed = s .speed; readback = v; pending = s .pending }
 
   pub steady-pending : (x : ℕ) → validPending x ≡ true → Steady a b k t r x
   steady-pending x v =
-      record { a = s .a; b = s .b; counter = s .counter; length = s .length; prescaler = s .prescaler; readback = s .readback; pending = v }
+      record { a = s .a; b = s .b; counter = s .counter; length = s .length; prescaler = s .prescaler; speed = s .speed; readback = s .readback; pending = v }
 
 -- a kept core from its parts
 pub kept-from : (c : Core) → SteadyCore c → ValidSlot (c .enabled) (c .slot) → (c .enabled ≡ true → unmoved (c .slot) ≡ true → finished (c .block) ≡ false) → Kept c
@@ -64,6 +66,7 @@ kept-from c s v h =
             a = cycle-port _ (s .a .cycle);
             b = cycle-port _ (s .b .cycle);
             counter = s .counter;
+            speed = s .speed;
             readback = reading-readback _ (s .readback);
             pending = s .pending;
             slot = facts-slot _ _ v;
@@ -81,6 +84,7 @@ kept-steady c k =
       counter = k .valid .counter;
       length = k .range .length;
       prescaler = k .range .prescaler;
+      speed = k .valid .speed;
       readback = readback-reading _ (k .valid .readback);
       pending = k .valid .pending;
     }

@@ -1,6 +1,6 @@
 -- Validity: the tests are true exactly where the facts hold. Each test is taken apart by the laws of `&&`, `||` and `pick`.
 -- Assumes nothing.
-use Prim.Native.Nat.{_≤_, _<_}
+use Prim.Native.Nat.{ℕ, _%_, _≤_, _<_}
 use native.Mathlib.Omega.{arith}
 use mathlib.Core.Path.{_≡_, sym, _∙_, ap}
 use mathlib.Core.Bool.{Bool, true, false, not}
@@ -9,7 +9,7 @@ use lib.Dec.{leb, ltb, eqb}
 use borrow.Author.Tests.{ltb-true, leb-true, leb-false, eqb-true, eqb-false, lt-ltb, le-ltb, le-leb, eq-eqb, ne-eqb, not-true}
 use Rattle.rules.specs.Blocks.{blockCount, finished}
 use Rattle.rules.specs.Slots.{unmoved}
-use Rattle.rules.specs.Validity.{validPort, validReadback, restingSlot, validLength, runningSlot, validSlot, validProgress, validCore, validCoreIf}
+use Rattle.rules.specs.Validity.{validPort, validReadback, restingSlot, mostLength, prescaledLength, validLength, runningSlot, validSlot, validProgress, validCore, validCoreIf}
 use Rattle.rules.specs.Facts.{ValidParts, ValidCycle, ValidReading, Resting, SlotLength, busTime, prescaled, Running, ValidSlot, resting, running}
 use Rattle.rules.specs.declared.Port.{Port}
 use Rattle.rules.specs.declared.Block.{Block}
@@ -28,16 +28,18 @@ core-parts c e =
       a = h .0;
       b = h .1 .0;
       counter = leb-true _ _ (h .1 .1 .0);
-      readback = h .1 .1 .1 .0;
-      pending = h .1 .1 .1 .1 .0;
-      slot = h .1 .1 .1 .1 .1 .0;
-      progress = h .1 .1 .1 .1 .1 .1 .0;
+      speed = leb-true _ _ (h .1 .1 .1 .0);
+      readback = h .1 .1 .1 .1 .0;
+      pending = h .1 .1 .1 .1 .1 .0;
+      slot = h .1 .1 .1 .1 .1 .1 .0;
+      progress = h .1 .1 .1 .1 .1 .1 .1 .0;
     }
 
 pub parts-core : (c : Core) → ValidParts c → validCore c ≡ true
 unfolding validCoreIf
 parts-core c v =
-    true-all _ (v .a, (v .b, (le-leb _ _ (v .counter), (v .readback, (v .pending, (v .slot, (v .progress, tt)))))))
+    true-all _
+    (v .a, (v .b, (le-leb _ _ (v .counter), (le-leb _ _ (v .speed), (v .readback, (v .pending, (v .slot, (v .progress, tt))))))))
 
 -- ---- a port's cycle
 
@@ -61,16 +63,31 @@ reading-readback r v = true-all _ (le-leb _ _ (v .mask), (le-leb _ _ (v .positio
 
 -- ---- the slot
 
+pub prescaled-facts : (n : ℕ) → prescaledLength n ≡ true → (32 ≤ n) × (n ≤ mostLength) × (n % 32 ≡ 0)
+unfolding prescaledLength
+prescaled-facts n e = let h = all-true _ e in (leb-true _ _ (h .0), leb-true _ _ (h .1 .0), eqb-true _ _ (h .1 .1 .0))
+
+facts-prescaled : (n : ℕ) → 32 ≤ n → n ≤ mostLength → n % 32 ≡ 0 → prescaledLength n ≡ true
+unfolding prescaledLength
+facts-prescaled n l m d = true-all _ (le-leb _ _ l, (le-leb _ _ m, (eq-eqb _ _ d, tt)))
+
 length-facts : (s : Slot) → validLength s ≡ true → SlotLength s
 unfolding validLength
 length-facts s e =
     any-cases _ _ e (λ d. busTime (eqb-true _ _ d))
-    (λ r. any-cases _ _ r (λ d. let h = all-true _ d in prescaled (leb-true _ _ (h .0)) (leb-true _ _ (h .1 .0)) (eqb-true _ _ (h .1 .1 .0))) any-none)
+    (λ r.
+    any-cases _ _ r
+    (λ d.
+    let h = all-true _ d in
+    let p = prescaled-facts _ (h .0) in
+    prescaled (p .0) (p .1) (p .2) (leb-true _ _ (h .1 .0)))
+    any-none)
 
 facts-length : (s : Slot) → SlotLength s → validLength s ≡ true
 unfolding validLength
 facts-length s (busTime e) = any-first _ _ (eq-eqb _ _ e)
-facts-length s (prescaled l m d) = any-more _ _ (any-first _ _ (true-all _ (le-leb _ _ l, (le-leb _ _ m, (eq-eqb _ _ d, tt)))))
+facts-length s (prescaled l m d b) =
+    any-more _ _ (any-first _ _ (true-all _ (facts-prescaled _ l m d, (le-leb _ _ b, tt))))
 
 resting-facts : (s : Slot) → s .elapsed ≡ 0 → restingSlot s ≡ true → Resting s
 unfolding restingSlot
@@ -128,17 +145,17 @@ facts-progress t b s f =
 
 -- ---- bounds that code relies on
 
-slot-elapsed : (t : Bool) (s : Slot) → ValidSlot t s → s .elapsed < 8160
+slot-elapsed : (t : Bool) (s : Slot) → ValidSlot t s → s .elapsed < mostLength
 slot-elapsed t s (resting r) = omega arith
 slot-elapsed t s (running on r) = length-most (r .length)
   where
-    length-most : SlotLength s → s .elapsed < 8160
+    length-most : SlotLength s → s .elapsed < mostLength
     length-most (busTime e) = omega arith
-    length-most (prescaled l m e) = omega arith
+    length-most (prescaled l m e b) = omega arith
 
 pub record Bounded (c : Core) : Type 0 where
   pub counter : c .block .counter ≤ 65536
-  pub elapsed : c .slot .elapsed < 8160
+  pub elapsed : c .slot .elapsed < mostLength
 
 pub valid-bounded : (c : Core) → validCore c ≡ true → Bounded c
 valid-bounded c e =

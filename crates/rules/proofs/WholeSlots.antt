@@ -26,7 +26,7 @@ use Rattle.rules.proofs.Choice.{pick-true, pick-false, pick-cases, eith
 use Rattle.rules.proofs.Blocks.{count-most}
 use Rattle.rules.proofs.Slots.{unmoved-first}
 use Rattle.rules.proofs.Steady.{kept-steady, kept-slot, kept-progress}
-use Rattle.rules.proofs.Clock.{new-length}
+use Rattle.rules.proofs.Clock.{new-length, new-bus}
 use Rattle.rules.proofs.World.{clocked-add}
 use Rattle.rules.proofs.Spans.{kind-of-code, counted-none, span-clocked}
 use Rattle.rules.proofs.Stretches.{clock-first, clock-later, Runs, Part, toMove, behind, stretch-span, least-facts}
@@ -219,9 +219,9 @@ module _ {M : Type 0} (σ : Store M) (c : Core) (b : Buffers M) (k : Clocks) (t 
 
 -- ---- the start of a slot of a valid core
 
-length-fits : (s : Slot) → s .bus ≤ 8 → SlotLength s → s .bus ≤ s .length
-length-fits s h (busTime e) = omega arith
-length-fits s h (prescaled l m e) = omega arith
+length-fits : (s : Slot) → SlotLength s → s .bus ≤ s .length
+length-fits s (busTime e) = omega arith
+length-fits s (prescaled l m e b) = b
 
 pub kept-starts : (c : Core) → Kept c → c .enabled ≡ true → c .slot .elapsed ≡ 0 → Starts c
 kept-starts c k on e =
@@ -229,8 +229,8 @@ kept-starts c k on e =
     record {
       on = on;
       rest = e;
-      some = omega (arith, s .a .cycle, s .b .cycle);
-      fits = length-fits (newSlot c) (omega (arith, s .a .cycle, s .b .cycle)) (new-length c (s .prescaler));
+      some = (let b = new-bus c s .least in omega arith);
+      fits = length-fits (newSlot c) (new-length c (s .prescaler));
     }
 
 resting-slot : (t : Bool) (s : Slot) → ValidSlot t s → s .elapsed ≡ 0 → s ≡ noSlot

@@ -48,7 +48,7 @@ module _ (byte : ℕ) (c : Core) (f : Settled (c .enabled) (c .slot)) (s : Stead
   reset-steady =
       steady-a
       (steady-b
-      (steady-control (steady-readback s (reset c .readback) (record { mask = omega arith; position = omega arith })) (reset c .control) (omega arith))
+      (steady-control (steady-readback s (reset c .readback) (record { mask = omega arith; position = omega arith })) (reset c .control) (omega arith) (s .speed))
       (good-reset _ (s .b)))
       (good-reset _ (s .a))
 
@@ -92,12 +92,12 @@ module _ (byte : ℕ) (c : Core) (f : Settled (c .enabled) (c .slot)) (s : Stead
   unfolding register
   register-kept number =
       table Kept
-      (kept _ f (steady-control s _ (s .prescaler))
+      (kept _ f (steady-control s _ (s .prescaler) (s .speed))
       ⨾ kept _ f (steady-a s (good-configured _ byte (s .a)))
       ⨾ kept _ f (steady-b s (good-configured _ byte (s .b)))
       ⨾ wr3-kept
-      ⨾ kept _ f (steady-control s _ (s .prescaler))
-      ⨾ kept _ f (steady-control s _ (s .prescaler))
+      ⨾ kept _ f (steady-control s _ (s .prescaler) (s .speed))
+      ⨾ kept _ f (steady-control s _ (s .prescaler) (s .speed))
       ⨾ command-kept
       ⨾ below (kept c f s))
 
@@ -113,7 +113,7 @@ module _ (byte : ℕ) (c : Core) (f : Settled (c .enabled) (c .slot)) (s : Stead
       ⨾ kept _ f (steady-block s _ (s .counter) (high-fits byte _ h (s .length)))
       ⨾ kept _ f (steady-a s (good-timed _ byte (s .a)))
       ⨾ kept _ f (steady-b s (good-timed _ byte (s .b)))
-      ⨾ kept _ f (steady-control s _ h)
+      ⨾ kept _ f (steady-control s _ h (s .speed))
       ⨾ kept _ f (steady-b s (good-low _ byte h (s .b)))
       ⨾ kept _ f (steady-b s (good-high _ byte h (s .b)))
       ⨾ below (kept _ f (steady-readback s _ (record { mask = omega arith; position = omega arith }))))

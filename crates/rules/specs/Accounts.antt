@@ -13,7 +13,7 @@ use Rattle.rules.specs.Clock.{Kind, busClock, heldClock, cpuClock}
 use Rattle.rules.specs.Buffers.{Store}
 use Rattle.rules.specs.World.{Move}
 use Rattle.rules.specs.Calls.{Answered}
-use Rattle.rules.specs.Entries.{Outside, Entry, portWrite, portRead, clockGrant, otherGrant, outsideChange, bytesWritten, Run, run, systemAtPowerOn}
+use Rattle.rules.specs.Entries.{Outside, Entry, portWrite, portRead, speedCall, clockGrant, otherGrant, outsideChange, bytesWritten, Run, run, systemAtPowerOn}
 use Rattle.rules.specs.History.{Event, clockNoted, counterZeroed, History, history, pastAtPowerOn}
 use Rattle.rules.specs.Splitting.{SplitsAt}
 
@@ -65,6 +65,7 @@ zeroedNoted (counterZeroed held ∷ es) = held + zeroedNoted es
 abbrev pub clocksAsked : {M C : Type 0} {σ : Store M} → Entry σ C → ℕ
 clocksAsked (portWrite port byte) = 0
 clocksAsked (portRead port) = 0
+clocksAsked (speedCall code) = 0
 clocksAsked (clockGrant n) = n
 clocksAsked (otherGrant n b wrong) = n
 clocksAsked (outsideChange x) = 0

@@ -5,12 +5,13 @@ use lib.Dec.{eqb}
 use Rattle.rules.specs.Choice.{pick}
 use Rattle.rules.specs.Steering.{Steering, bits}
 use Rattle.rules.specs.Validity.{total}
+use Rattle.rules.specs.Speed.{atSpeed}
 use Rattle.rules.specs.Registers.{writtenOver}
 use Rattle.rules.specs.Readback.{Byte, readByte}
 use Rattle.rules.specs.Clock.{Clock, clockOf}
 use Rattle.rules.specs.Buffers.{Store, Buffers}
 use Rattle.rules.specs.World.{SystemOf, System, system, clockedBy}
-use Rattle.rules.specs.Refusals.{accessRefusalOver, grantRefusalOver}
+use Rattle.rules.specs.Refusals.{accessRefusalOver, speedRefusalOver, grantRefusalOver}
 use Rattle.rules.specs.declared.Clocks.{Clocks}
 use Rattle.rules.specs.declared.Core.{Core}
 
@@ -19,7 +20,7 @@ pub record Answered : Type 0 where
   pub number : ℕ
   pub byte : ℕ
 
--- the answer to a port write or a port read, and core, kept as D, and clock counts after it
+-- the answer to a port write, a port read or a speed call, and core, kept as D, and clock counts after it
 pub record ReplyOf (D : Type 0) : Type 0 where
   pub answered : Answered
   pub core : D
@@ -37,8 +38,8 @@ accepted byte = record { number = 0; byte = byte }
 abbrev pub refused : ℕ → Answered
 refused number = record { number = number; byte = 0 }
 
--- a port write or a port read: unless it is refused, it gives this byte and leaves the core so; a refused one leaves
--- everything as it came
+-- a port write, a port read or a speed call: unless it is refused, it gives this byte and leaves the core so; a refused one
+-- leaves everything as it came
 unfoldable pub unlessRefused : {D : Type 0} → ℕ → ℕ → D → D → Clocks → ReplyOf D
 unlessRefused number byte next d k =
     pick (eqb number 0)
@@ -49,7 +50,7 @@ unlessRefused number byte next d k =
 abbrev pub beside : {D M : Type 0} → Buffers M → ReplyOf D → AnswerOf D M
 beside b r = record { answered = r .answered; system = system (r .core) b (r .clocks) }
 
--- by what steers the pending parameters
+-- by what the calls go by
 module _ {D : Type 0} (δ : Steering D) where
   unfoldable pub writeReplyOver : D → Clocks → ℕ → ℕ → ReplyOf D
   writeReplyOver d k port byte =
@@ -60,12 +61,19 @@ module _ {D : Type 0} (δ : Steering D) where
       let r : Byte = readByte (δ .core d) in
       unlessRefused (accessRefusalOver δ d (total k) port) (r .byte) (δ .with (r .core) d) d k
 
+  unfoldable pub speedReplyOver : D → Clocks → ℕ → ReplyOf D
+  speedReplyOver d k code =
+      unlessRefused (speedRefusalOver δ d (total k) code) 0 (δ .with (atSpeed code (δ .core d)) d) d k
+
 module _ {D M : Type 0} (δ : Steering D) where
   abbrev pub writeOver : SystemOf D M → ℕ → ℕ → AnswerOf D M
   writeOver s port byte = beside (s .world .buffers) (writeReplyOver δ (s .world .core) (s .clocks) port byte)
 
   abbrev pub readOver : SystemOf D M → ℕ → AnswerOf D M
   readOver s port = beside (s .world .buffers) (readReplyOver δ (s .world .core) (s .clocks) port)
+
+  abbrev pub setSpeedOver : SystemOf D M → ℕ → AnswerOf D M
+  setSpeedOver s code = beside (s .world .buffers) (speedReplyOver δ (s .world .core) (s .clocks) code)
 
   -- why a grant of n clocks is refused, 0 for accepted
   abbrev pub grantNumberOver : Store M → SystemOf D M → ℕ → ℕ
@@ -97,12 +105,18 @@ writeReply c k port byte = writeReplyOver bits c k port byte
 abbrev pub readReply : Core → Clocks → ℕ → Reply
 readReply c k port = readReplyOver bits c k port
 
+abbrev pub speedReply : Core → Clocks → ℕ → Reply
+speedReply c k code = speedReplyOver bits c k code
+
 module _ {M : Type 0} where
   abbrev pub write : System M → ℕ → ℕ → Answer M
   write s port byte = writeOver bits s port byte
 
   abbrev pub read : System M → ℕ → Answer M
   read s port = readOver bits s port
+
+  abbrev pub setSpeed : System M → ℕ → Answer M
+  setSpeed s code = setSpeedOver bits s code
 
 module _ {M : Type 0} (σ : Store M) where
   abbrev pub grantNumber : System M → ℕ → ℕ

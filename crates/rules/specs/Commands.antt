@@ -26,9 +26,9 @@ blockEnded c = withStatus (withE false (c .status)) c
 unfoldable pub enable : Core → Core
 enable c = pick (c .enabled) c (pick (finished (c .block)) (blockEnded c) (withEnabled true c))
 
--- prescaler 0 and no auto restart
+-- prescaler 0 and no auto restart; the speed stays
 abbrev pub controlAtReset : Control → Control
-controlAtReset k = record { forward = k .forward; prescaler = 0; burst = k .burst; restart = false }
+controlAtReset k = record { forward = k .forward; prescaler = 0; burst = k .burst; restart = false; speed = k .speed }
 
 -- C3 (ours in detail): disabled, a running wait dropped, both cycles 4, prescaler 0, auto restart off, status 3A, mask 7F,
 -- reading from the start, no status read waiting; everything else stays

@@ -9,7 +9,7 @@ use Rattle.rules.specs.PowerOn.{powerOn, noClocks}
 use Rattle.rules.specs.Clock.{Clock, clockOf}
 use Rattle.rules.specs.Buffers.{Store, Buffers}
 use Rattle.rules.specs.World.{SystemOf, System, system}
-use Rattle.rules.specs.Calls.{Answered, AnswerOf, Answer, accepted, writeOver, readOver, grantOver}
+use Rattle.rules.specs.Calls.{Answered, AnswerOf, Answer, accepted, writeOver, readOver, setSpeedOver, grantOver}
 use Rattle.rules.specs.declared.Core.{Core}
 
 -- the changes of a memory from outside: each kind of change, and what it makes of the memory
@@ -33,12 +33,13 @@ PokesKeepLength = (ps : List Poke) (m : List ℕ) → length (poked ps m) ≡ le
 abbrev pub flatOutside : Outside (List ℕ) (List Poke)
 flatOutside = record { change = poked }
 
--- an entry of a list: a port write (port, byte), a port read (port), a grant of the list's own buffers (clocks), a grant that
--- lends others in their place (clocks, the buffers), a memory that is refused or latches of a wrong length, or an outside
--- change of memory
+-- an entry of a list: a port write (port, byte), a port read (port), a speed call (code), a grant of the list's own buffers
+-- (clocks), a grant that lends others in their place (clocks, the buffers), a memory that is refused or latches of a wrong
+-- length, or an outside change of memory
 pub data Entry {M : Type 0} (σ : Store M) (C : Type 0) : Type 0 where
   portWrite : ℕ → ℕ → Entry σ C
   portRead : ℕ → Entry σ C
+  speedCall : ℕ → Entry σ C
   clockGrant : ℕ → Entry σ C
   otherGrant : ℕ → (b : Buffers M) → (σ .refusal (b .memory) ≡ 0 → length (b .latches) ≡ 65536 → ⊥) → Entry σ C
   outsideChange : C → Entry σ C
@@ -48,6 +49,7 @@ unfoldable pub bytesWritten : {M C : Type 0} {σ : Store M} → List (Entry σ C
 bytesWritten [] = []
 bytesWritten (portWrite port byte ∷ es) = byte ∷ bytesWritten es
 bytesWritten (portRead port ∷ es) = bytesWritten es
+bytesWritten (speedCall code ∷ es) = bytesWritten es
 bytesWritten (clockGrant n ∷ es) = bytesWritten es
 bytesWritten (otherGrant n b wrong ∷ es) = bytesWritten es
 bytesWritten (outsideChange x ∷ es) = bytesWritten es
@@ -69,7 +71,7 @@ abbrev pub changedOutside : {D M C : Type 0} → Outside M C → C → SystemOf 
 changedOutside ω x s =
     besideBuffers (record { memory = ω .change x (s .world .buffers .memory); latches = s .world .buffers .latches }) s
 
--- by what steers the pending parameters, and a clock κ of the core
+-- by what the calls go by, and a clock κ of the core
 module _ {D M : Type 0} (δ : Steering D) (κ : Core → Clock) (σ : Store M) where
   -- a grant of other buffers: the list keeps its own
   abbrev pub grantOtherOver : SystemOf D M → ℕ → Buffers M → AnswerOf D M
@@ -82,6 +84,7 @@ module _ {D M C : Type 0} (δ : Steering D) (κ : Core → Clock) (σ : Store M)
   abbrev pub enterOver : Entry σ C → SystemOf D M → AnswerOf D M
   enterOver (portWrite port byte) s = writeOver δ s port byte
   enterOver (portRead port) s = readOver δ s port
+  enterOver (speedCall code) s = setSpeedOver δ s code
   enterOver (clockGrant n) s = grantOver δ κ σ s n
   enterOver (otherGrant n b wrong) s = grantOtherOver δ κ σ s n b
   enterOver (outsideChange x) s = record { answered = accepted 0; system = changedOutside ω x s }

@@ -4,23 +4,28 @@ use Prim.Native.Nat.{ℕ, zero, suc, _+_, _*_, _%_, _^_, _≤_, _<_}
 use mathlib.Core.Path.{_≡_}
 use mathlib.Core.Bool.{Bool, true, false, not}
 use mathlib.Core.List.{List, [], _∷_}
-use lib.Dec.{ltb, eqb}
+use lib.Dec.{leb, ltb, eqb}
 use lib.ListN.{length}
 use Rattle.rules.specs.Choice.{pick, every, any}
 use Rattle.rules.specs.Bytes.{bit}
 use Rattle.rules.specs.Blocks.{blockCount, finished}
+use Rattle.rules.specs.Speed.{atSpeed}
 use Rattle.rules.specs.Slots.{busHeld}
 use Rattle.rules.specs.Selection.{isWR0, isWR1, isWR2, isWR4, selections}
 use Rattle.rules.specs.Pending.{aLow, aHigh, lengthLow, lengthHigh, aTiming, bTiming, prescaler, bLow, bHigh, readMask, nothing, next, isPending, rest, wr0Asks, timingAsks, wr4Asks, pendingAfter, validPending}
-use Rattle.rules.specs.Validity.{valid, total, most64}
+use Rattle.rules.specs.Validity.{validPort, validReadback, validSlot, validCore, valid, total, most64}
+use Rattle.rules.specs.Facts.{ValidParts, ValidCycle, ValidReading, ValidSlot}
 use Rattle.rules.specs.Registers.{carriedOut, inMode, written}
 use Rattle.rules.specs.Readback.{registerByte, after, chosen, readByte}
 use Rattle.rules.specs.Clock.{clockOf}
 use Rattle.rules.specs.Buffers.{Store, flat, Buffers}
 use Rattle.rules.specs.World.{System}
-use Rattle.rules.specs.Refusals.{wrongPort, accessRefusal, grantRefusal}
-use Rattle.rules.specs.Calls.{refused, writeReply, readReply, grantNumber, grant}
+use Rattle.rules.specs.Refusals.{wrongPort, accessRefusal, speedRefusal, grantRefusal}
+use Rattle.rules.specs.Calls.{refused, writeReply, readReply, speedReply, grantNumber, grant}
+use Rattle.rules.specs.declared.Port.{Port}
 use Rattle.rules.specs.declared.Block.{Block}
+use Rattle.rules.specs.declared.Readback.{Readback}
+use Rattle.rules.specs.declared.Slot.{Slot}
 use Rattle.rules.specs.declared.Clocks.{Clocks}
 use Rattle.rules.specs.declared.Core.{Core}
 
@@ -39,6 +44,13 @@ pub record AccessExact (c : Core) (sum port : ℕ) : Type 0 where
   pub none : eqb (accessRefusal c sum port) 0 ≡ every (valid c sum ∷ not (wrongPort port) ∷ not (busHeld c) ∷ [])
   pub most : accessRefusal c sum port ≤ 3
 
+-- the number of a speed call
+pub record SpeedRefusalExact (c : Core) (sum code : ℕ) : Type 0 where
+  pub one : eqb (speedRefusal c sum code) 1 ≡ not (valid c sum)
+  pub seven : eqb (speedRefusal c sum code) 7 ≡ every (valid c sum ∷ not (leb code 3) ∷ [])
+  pub none : eqb (speedRefusal c sum code) 0 ≡ every (valid c sum ∷ leb code 3 ∷ [])
+  pub other : any (eqb (speedRefusal c sum code) 0 ∷ eqb (speedRefusal c sum code) 1 ∷ eqb (speedRefusal c sum code) 7 ∷ []) ≡ true
+
 -- the number of a grant with the flat memory
 pub record GrantExact (c : Core) (sum : ℕ) (b : Buffers (List ℕ)) (n : ℕ) : Type 0 where
   pub one : eqb (grantRefusal flat c sum b n) 1 ≡ not (valid c sum)
@@ -52,9 +64,21 @@ pub record GrantExact (c : Core) (sum : ℕ) (b : Buffers (List ℕ)) (n : ℕ) 
 pub record RefusalsExact : Type 0 where
   pub write : (c : Core) (k : Clocks) (port byte : ℕ) → writeReply c k port byte .answered .number ≡ accessRefusal c (total k) port
   pub read : (c : Core) (k : Clocks) (port : ℕ) → readReply c k port .answered .number ≡ accessRefusal c (total k) port
+  pub speed : (c : Core) (k : Clocks) (code : ℕ) → speedReply c k code .answered .number ≡ speedRefusal c (total k) code
   pub granted : (s : System (List ℕ)) (n : ℕ) → grant flat s n .answered .number ≡ grantNumber flat s n
   pub access : (c : Core) (sum port : ℕ) → AccessExact c sum port
+  pub speeds : (c : Core) (sum code : ℕ) → SpeedRefusalExact c sum code
   pub grants : (c : Core) (sum : ℕ) (b : Buffers (List ℕ)) (n : ℕ) → GrantExact c sum b n
+
+-- ---- validity: a core passes the test exactly where its parts are valid, and its slot where the facts of one hold
+
+pub record ValidExact : Type 0 where
+  pub parts : (c : Core) → Exactly (validCore c ≡ true) (ValidParts c)
+  pub port : (p : Port) → Exactly (validPort p ≡ true) (ValidCycle p)
+  pub readback : (r : Readback) → Exactly (validReadback r ≡ true) (ValidReading r)
+  pub slot : (enabled : Bool) (s : Slot) → Exactly (validSlot enabled s ≡ true) (ValidSlot enabled s)
+  -- a core at no speed is not valid, so that every call refuses it with 1
+  pub speed : (c : Core) (sum : ℕ) → 3 < c .control .speed → valid c sum ≡ false
 
 -- ---- pending parameters: valid exactly for what a register's byte asks for, the prescaler alone, the mask alone, and what
 -- is left of these
@@ -135,10 +159,11 @@ pub record PendingExact : Type 1 where
   pub lowest : (p : ℕ) → (next p ≡ nothing → ⊥) → LowestBit 10 p (next p)
   pub none : (p : ℕ) → Exactly (next p ≡ nothing) ((i : ℕ) → i < 10 → bit i p ≡ false)
   pub empty : (p : ℕ) → validPending p ≡ true → next p ≡ nothing → p ≡ nothing
-  -- what a byte does to the rest of the core leaves them alone, and so do a read and a clock
+  -- what a byte does to the rest of the core leaves them alone, and so do a read, a clock and another speed
   pub alone : (byte : ℕ) (c : Core) → carriedOut byte c .pending ≡ c .pending
   pub aloneInRead : (c : Core) → readByte c .core .pending ≡ c .pending
   pub aloneInClock : (c : Core) → clockOf c .next .pending ≡ c .pending
+  pub aloneInSpeed : (c : Core) (code : ℕ) → atSpeed code c .pending ≡ c .pending
   -- they are these 23 and no other
   pub listed : (p : ℕ) → Exactly (validPending p ≡ true) (among p pendingNumbers ≡ true)
   pub count : length pendingNumbers ≡ 23
@@ -146,6 +171,7 @@ pub record PendingExact : Type 1 where
   -- a device with any other number is refused with 1 by every call
   pub write : (c : Core) (k : Clocks) (port byte : ℕ) → Unlisted c → writeReply c k port byte ≡ record { answered = refused 1; core = c; clocks = k }
   pub read : (c : Core) (k : Clocks) (port : ℕ) → Unlisted c → readReply c k port ≡ record { answered = refused 1; core = c; clocks = k }
+  pub speed : (c : Core) (k : Clocks) (code : ℕ) → Unlisted c → speedReply c k code ≡ record { answered = refused 1; core = c; clocks = k }
   pub granted : {M : Type 0} (σ : Store M) (s : System M) (n : ℕ) → Unlisted (s .world .core) → grant σ s n ≡ record { answered = refused 1; system = s }
 
 -- ---- blocks

@@ -15,6 +15,7 @@ pub record ValidParts (c : Core) : Type 0 where
   pub a : validPort (c .a) ≡ true
   pub b : validPort (c .b) ≡ true
   pub counter : c .block .counter ≤ 65536
+  pub speed : c .control .speed ≤ 3
   pub readback : validReadback (c .readback) ≡ true
   pub pending : validPending (c .pending) ≡ true
   pub slot : validSlot (c .enabled) (c .slot) ≡ true
@@ -37,17 +38,17 @@ pub record Resting (s : Slot) : Type 0 where
   pub length : s .length ≡ 0
   pub burst : s .burst ≡ false
 
--- a slot's length is its bus time, or a multiple of 32 from 32 to 8,160
+-- a slot's length is its bus time, or a multiple of 32 from 32 to 8,160 that is not below it
 pub data SlotLength (s : Slot) : Type 0 where
   busTime : s .length ≡ s .bus → SlotLength s
-  prescaled : 32 ≤ s .length → s .length ≤ 8160 → s .length % 32 ≡ 0 → SlotLength s
+  prescaled : 32 ≤ s .length → s .length ≤ 8160 → s .length % 32 ≡ 0 → s .bus ≤ s .length → SlotLength s
 
 -- a slot of which clocks have elapsed
 pub record Running (s : Slot) : Type 0 where
   pub elapsed : 0 < s .elapsed
   pub below : s .elapsed < s .length
   pub least : 4 ≤ s .bus
-  pub most : s .bus ≤ 8
+  pub most : s .bus ≤ 64
   pub length : SlotLength s
 
 -- a valid slot; clocks have elapsed only while the device is enabled

@@ -1,6 +1,6 @@
 -- The history of a list (document 01): from the start and the entries' arguments alone, over a state without clock counts.
--- It shares with the run the refusals, the effects of accepted writes and reads, and the one-clock step; the grant as a
--- whole, the sum and the notes are its own.
+-- It shares with the run the refusals, the effects of accepted writes, reads and speed calls, and the one-clock step; the
+-- grant as a whole, the sum and the notes are its own.
 -- Assumes nothing.
 use Prim.Native.Nat.{ℕ, zero, suc, _+_}
 use mathlib.Core.Bool.{Bool, false}
@@ -9,13 +9,15 @@ use lib.Dec.{eqb}
 use Rattle.rules.specs.Choice.{pick, any}
 use Rattle.rules.specs.PowerOn.{powerOn}
 use Rattle.rules.specs.Pending.{isPending}
+use Rattle.rules.specs.Validity.{validCore}
+use Rattle.rules.specs.Speed.{atSpeed}
 use Rattle.rules.specs.Registers.{written}
 use Rattle.rules.specs.Readback.{readByte}
 use Rattle.rules.specs.Clock.{Clock, clockOf}
 use Rattle.rules.specs.Buffers.{Store, Buffers}
 use Rattle.rules.specs.World.{World, Note, stepBy, noteBy}
-use Rattle.rules.specs.Refusals.{accessRefusal, grantRefusal}
-use Rattle.rules.specs.Entries.{Outside, Entry, portWrite, portRead, clockGrant, otherGrant, outsideChange}
+use Rattle.rules.specs.Refusals.{accessRefusalIf, speedRefusalIf, grantRefusalIf}
+use Rattle.rules.specs.Entries.{Outside, Entry, portWrite, portRead, speedCall, clockGrant, otherGrant, outsideChange}
 use Rattle.rules.specs.declared.Core.{Core}
 
 -- what the history notes: a clock, or what the counter held when a Load or a Continue put it to zero
@@ -78,9 +80,11 @@ module _ {M : Type 0} (κ : Core → Clock) (σ : Store M) where
   abbrev pub grantPassedBy : ℕ → Past M → Past M
   grantPassedBy n p = clocksPassedBy n (record { world = p .world; sum = p .sum + n; events = p .events })
 
+-- by which cores are valid, and a clock κ of the core
+module _ {M : Type 0} (ν : Core → Bool) (κ : Core → Clock) (σ : Store M) where
   -- a grant that lends these buffers; refusal 6 is judged by the sum
   abbrev pub grantNotedBy : Buffers M → ℕ → Past M → EntryNoted M
-  grantNotedBy b n p = notedUnless (grantRefusal σ (p .world .core) (p .sum) b n) (grantPassedBy n p) p
+  grantNotedBy b n p = notedUnless (grantRefusalIf (ν (p .world .core)) σ (p .sum) b n) (grantPassedBy κ σ n p) p
 
 -- an outside change of memory replaces bytes and notes nothing
 abbrev pub changePassed : {M C : Type 0} → Outside M C → C → Past M → Past M
@@ -95,16 +99,22 @@ changePassed ω x p =
       events = p .events;
     }
 
--- by a clock κ of the core
-module _ {M C : Type 0} (κ : Core → Clock) (σ : Store M) (ω : Outside M C) where
-  -- one entry
+-- by which cores are valid, and a clock κ of the core
+module _ {M C : Type 0} (ν : Core → Bool) (κ : Core → Clock) (σ : Store M) (ω : Outside M C) where
+  -- the number of a port write or a port read
+  abbrev accessNumber : ℕ → Past M → ℕ
+  accessNumber port p = accessRefusalIf (ν (p .world .core)) (p .world .core) (p .sum) port
+
+  -- one entry; an accepted speed call sets the speed and notes nothing
   abbrev pub noteEntryBy : Entry σ C → Past M → EntryNoted M
   noteEntryBy (portWrite port byte) p =
-      notedUnless (accessRefusal (p .world .core) (p .sum) port) (writePassed port byte p) p
+      notedUnless (accessNumber port p) (writePassed port byte p) p
   noteEntryBy (portRead port) p =
-      notedUnless (accessRefusal (p .world .core) (p .sum) port) (withCore (readByte (p .world .core) .core) p) p
-  noteEntryBy (clockGrant n) p = grantNotedBy κ σ (p .world .buffers) n p
-  noteEntryBy (otherGrant n b wrong) p = grantNotedBy κ σ b n p
+      notedUnless (accessNumber port p) (withCore (readByte (p .world .core) .core) p) p
+  noteEntryBy (speedCall code) p =
+      notedUnless (speedRefusalIf (ν (p .world .core)) (p .sum) code) (withCore (atSpeed code (p .world .core)) p) p
+  noteEntryBy (clockGrant n) p = grantNotedBy ν κ σ (p .world .buffers) n p
+  noteEntryBy (otherGrant n b wrong) p = grantNotedBy ν κ σ b n p
   noteEntryBy (outsideChange x) p = record { number = 0; past = changePassed ω x p }
 
   -- a list of entries
@@ -116,7 +126,7 @@ module _ {M C : Type 0} (κ : Core → Clock) (σ : Store M) (ω : Outside M C) 
         past = historyBy es (noteEntryBy e p .past) .past;
       }
 
--- by the rules' clock
+-- by the rules' validity and clock
 module _ {M : Type 0} (σ : Store M) where
   abbrev pub clockPassed : Past M → Past M
   clockPassed p = clockPassedBy clockOf σ p
@@ -129,10 +139,10 @@ module _ {M : Type 0} (σ : Store M) where
 
 module _ {M C : Type 0} (σ : Store M) (ω : Outside M C) where
   abbrev pub noteEntry : Entry σ C → Past M → EntryNoted M
-  noteEntry e p = noteEntryBy clockOf σ ω e p
+  noteEntry e p = noteEntryBy validCore clockOf σ ω e p
 
   abbrev pub history : List (Entry σ C) → Past M → History M
-  history es p = historyBy clockOf σ ω es p
+  history es p = historyBy validCore clockOf σ ω es p
 
 -- the history begins at power-on with nothing noted
 abbrev pub pastAtPowerOn : {M : Type 0} → M → List ℕ → Past M

@@ -4,12 +4,13 @@ pub mod Bytes
 pub mod Parts
 pub mod Ports
 pub mod Blocks
+pub mod Speed
 pub mod Slots
 pub mod Selection
 pub mod Pending
-pub mod Steering
 pub mod PowerOn
 pub mod Validity
+pub mod Steering
 pub mod Facts
 pub mod Commands
 pub mod Registers
@@ -33,4 +34,7 @@ pub mod Reached
 pub mod Recheck
 pub mod Sequences
 pub mod Numbered
+pub mod Slowing
+pub mod At28
+pub mod Unslowed
 pub mod Opened

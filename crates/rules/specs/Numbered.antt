@@ -7,7 +7,8 @@ use mathlib.Core.Bool.{true}
 use mathlib.Core.List.{List}
 use Rattle.rules.specs.PowerOn.{powerOn}
 use Rattle.rules.specs.Pending.{validPending}
-use Rattle.rules.specs.Validity.{validOver, total, valid}
+use Rattle.rules.specs.Validity.{total, valid}
+use Rattle.rules.specs.Steering.{validOver}
 use Rattle.rules.specs.Clock.{clockOf}
 use Rattle.rules.specs.Buffers.{Store}
 use Rattle.rules.specs.World.{SystemOf, System, system}

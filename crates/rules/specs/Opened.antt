@@ -3,24 +3,25 @@
 use Rattle.rules.specs.Choice.{pick, firstOf, every, any, means, firstHit}
 use Rattle.rules.specs.Ports.{cycleOf, stepped}
 use Rattle.rules.specs.Blocks.{blockCount, finished}
-use Rattle.rules.specs.Slots.{waiting, busHeld, unmoved, slotLength, slotOf}
+use Rattle.rules.specs.Speed.{factor}
+use Rattle.rules.specs.Slots.{waiting, busHeld, unmoved, busTimeOf, larger, slotLength, slotOf}
 use Rattle.rules.specs.Selection.{selects}
 use Rattle.rules.specs.Pending.{next, ask, asked, usedUp, pendingAfterAs, validPending}
-use Rattle.rules.specs.Validity.{validPort, validReadback, restingSlot, validLength, runningSlot, validSlot, validProgress, validCoreIf, validIf}
+use Rattle.rules.specs.Validity.{validPort, validReadback, restingSlot, prescaledLength, validLength, runningSlot, validSlot, validProgress, validCoreIf, validIf}
 use Rattle.rules.specs.Commands.{enable, readingCommand, command}
 use Rattle.rules.specs.Registers.{wr3, register, parameter, carriedOutAs, effectOver}
 use Rattle.rules.specs.Readback.{statusByte, registerByte, after, seek, readByte}
 use Rattle.rules.specs.Clock.{movedAt, kindAt, slotEnd, clockEnd, slotClock, clockOf}
 use Rattle.rules.specs.Buffers.{placed, source, destination, byteAt, put}
 use Rattle.rules.specs.World.{buffersAfter, clockedBy}
-use Rattle.rules.specs.Refusals.{accessRefusalIf, lentRefusalIf, grantRefusalIf}
-use Rattle.rules.specs.Calls.{unlessRefused, writeReplyOver, readReplyOver, grantOver}
+use Rattle.rules.specs.Refusals.{accessRefusalIf, speedRefusalIf, lentRefusalIf, grantRefusalIf}
+use Rattle.rules.specs.Calls.{unlessRefused, writeReplyOver, readReplyOver, speedReplyOver, grantOver}
 use Rattle.rules.specs.Entries.{poked, runOver}
 use Rattle.rules.specs.History.{zeroing, writePassed, notedUnless, clocksPassedBy, historyBy}
 
 -- choices and the parts of the core
 unfoldable partsOpened : Unit {0}
-unfolding pick firstOf every any means firstHit cycleOf stepped blockCount finished slotLength slotOf waiting busHeld unmoved
+unfolding pick firstOf every any means firstHit cycleOf stepped blockCount finished factor busTimeOf larger slotLength slotOf waiting busHeld unmoved
 partsOpened = tt
 
 -- what bytes do, and what they read
@@ -30,7 +31,7 @@ bytesOpened = tt
 
 -- which devices are valid
 unfoldable validOpened : Unit {0}
-unfolding validPort validReadback restingSlot validLength runningSlot validSlot validProgress validCoreIf validIf
+unfolding validPort validReadback restingSlot prescaledLength validLength runningSlot validSlot validProgress validCoreIf validIf
 validOpened = tt
 
 -- clocks, and the buffers that they work on
@@ -40,7 +41,7 @@ clocksOpened = tt
 
 -- calls, their lists and histories
 unfoldable callsOpened : Unit {0}
-unfolding accessRefusalIf lentRefusalIf grantRefusalIf unlessRefused writeReplyOver readReplyOver grantOver poked runOver zeroing writePassed notedUnless clocksPassedBy historyBy
+unfolding accessRefusalIf speedRefusalIf lentRefusalIf grantRefusalIf unlessRefused writeReplyOver readReplyOver speedReplyOver grantOver poked runOver zeroing writePassed notedUnless clocksPassedBy historyBy
 callsOpened = tt
 
 unfoldable pub opened : Unit {0}

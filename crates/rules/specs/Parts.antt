@@ -29,16 +29,19 @@ abbrev pub withZilog : Bool → Block → Block
 withZilog x b = record { length = b .length; counter = b .counter; zilog = x }
 
 abbrev pub withForward : Bool → Control → Control
-withForward x k = record { forward = x; prescaler = k .prescaler; burst = k .burst; restart = k .restart }
+withForward x k = record { forward = x; prescaler = k .prescaler; burst = k .burst; restart = k .restart; speed = k .speed }
 
 abbrev pub withPrescaler : ℕ → Control → Control
-withPrescaler x k = record { forward = k .forward; prescaler = x; burst = k .burst; restart = k .restart }
+withPrescaler x k = record { forward = k .forward; prescaler = x; burst = k .burst; restart = k .restart; speed = k .speed }
 
 abbrev pub withBurst : Bool → Control → Control
-withBurst x k = record { forward = k .forward; prescaler = k .prescaler; burst = x; restart = k .restart }
+withBurst x k = record { forward = k .forward; prescaler = k .prescaler; burst = x; restart = k .restart; speed = k .speed }
 
 abbrev pub withRestart : Bool → Control → Control
-withRestart x k = record { forward = k .forward; prescaler = k .prescaler; burst = k .burst; restart = x }
+withRestart x k = record { forward = k .forward; prescaler = k .prescaler; burst = k .burst; restart = x; speed = k .speed }
+
+abbrev pub withSpeed : ℕ → Control → Control
+withSpeed x k = record { forward = k .forward; prescaler = k .prescaler; burst = k .burst; restart = k .restart; speed = x }
 
 abbrev pub withE : Bool → Status → Status
 withE x s = record { e = x; t = s .t }

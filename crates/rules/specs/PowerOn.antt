@@ -1,6 +1,7 @@
 -- The device as it is when power comes on.
 -- Assumes nothing.
 use mathlib.Core.Bool.{true, false}
+use Rattle.rules.specs.Speed.{fullSpeed}
 use Rattle.rules.specs.Slots.{noSlot}
 use Rattle.rules.specs.Pending.{nothing}
 use Rattle.rules.specs.declared.Port.{Port}
@@ -21,14 +22,14 @@ statusAtReset = record { e = true; t = false }
 abbrev pub readbackAtReset : Readback
 readbackAtReset = record { mask = 127; position = 0; waiting = false }
 
--- A to B, prescaler off, continuous, no auto restart, zxn mode, disabled, nothing pending
+-- A to B, prescaler off, continuous, no auto restart, 28 MHz, zxn mode, disabled, nothing pending
 abbrev pub powerOn : Core
 powerOn =
     record {
       a = portAtPowerOn;
       b = portAtPowerOn;
       block = record { length = 0; counter = 0; zilog = false };
-      control = record { forward = true; prescaler = 0; burst = false; restart = false };
+      control = record { forward = true; prescaler = 0; burst = false; restart = false; speed = fullSpeed };
       status = statusAtReset;
       readback = readbackAtReset;
       pending = nothing;

@@ -1,7 +1,7 @@
 -- What every list of calls reaches from power-on, whatever memory and latches it begins with: a valid device, so that no
 -- entry is refused with 1, and counters of at most 65,536.
 -- Assumes nothing.
-use Prim.Native.Nat.{ℕ, _≤_}
+use Prim.Native.Nat.{ℕ, _≤_, _<_}
 use mathlib.Core.Path.{_≡_}
 use mathlib.Core.Bool.{true}
 use mathlib.Core.List.{List, [], _∷_}
@@ -11,7 +11,7 @@ use Rattle.rules.specs.Validity.{valid, total}
 use Rattle.rules.specs.Buffers.{Store, flat, Buffers}
 use Rattle.rules.specs.Keeping.{ValidDevice}
 use Rattle.rules.specs.Calls.{Answered}
-use Rattle.rules.specs.Entries.{Outside, Poke, flatOutside, Entry, portWrite, portRead, clockGrant, otherGrant, outsideChange, bytesWritten, Run, run, systemAtPowerOn}
+use Rattle.rules.specs.Entries.{Outside, Poke, flatOutside, Entry, portWrite, portRead, speedCall, clockGrant, otherGrant, outsideChange, bytesWritten, Run, run, systemAtPowerOn}
 use Rattle.rules.specs.History.{Event, clockNoted, counterZeroed, History, history, pastAtPowerOn}
 use Rattle.rules.specs.Accounts.{heldBefore}
 
@@ -47,6 +47,7 @@ NoneIs n (a ∷ as′) = (a .number ≡ n → ⊥) × NoneIs n as′
 abbrev pub Lends : (Buffers (List ℕ) → Type 0) → Entry flat (List Poke) → Type 0
 Lends P (portWrite port byte) = ⊥
 Lends P (portRead port) = ⊥
+Lends P (speedCall code) = ⊥
 Lends P (clockGrant n) = ⊥
 Lends P (otherGrant n b wrong) = P b
 Lends P (outsideChange x) = ⊥
@@ -64,10 +65,26 @@ OwnServe [] as′ = Unit {0}
 OwnServe (e ∷ es) [] = Unit {0}
 OwnServe (e ∷ es) (a ∷ as′) = (a .number ≡ 4 → Lends WrongMemory e) × (a .number ≡ 5 → Lends WrongLatches e) × OwnServe es as′
 
--- no entry of a list is answered with 1; from buffers of 65,536 bytes, 4 and 5 are answered to other buffers only
+-- a speed call of a code above 3
+abbrev pub AsksAbove : Entry flat (List Poke) → Type 0
+AsksAbove (portWrite port byte) = ⊥
+AsksAbove (portRead port) = ⊥
+AsksAbove (speedCall code) = 3 < code
+AsksAbove (clockGrant n) = ⊥
+AsksAbove (otherGrant n b wrong) = ⊥
+AsksAbove (outsideChange x) = ⊥
+
+-- 7 is answered only to such a call
+unfoldable pub OnlyAbove : List (Entry flat (List Poke)) → List Answered → Type 0
+OnlyAbove [] as′ = Unit {0}
+OnlyAbove (e ∷ es) [] = Unit {0}
+OnlyAbove (e ∷ es) (a ∷ as′) = (a .number ≡ 7 → AsksAbove e) × OnlyAbove es as′
+
+-- no entry of a list is answered with 1, and 7 is answered to a code above 3 only; from buffers of 65,536 bytes, 4 and 5 are answered to other buffers only
 abbrev pub AnswersReached : Type 0
 AnswersReached =
     (m l : List ℕ) (es : List (Entry flat (List Poke)))
     → AreBytes (bytesWritten es)
     → NoneIs 1 (run flat flatOutside es (systemAtPowerOn m l) .answers)
+    × OnlyAbove es (run flat flatOutside es (systemAtPowerOn m l) .answers)
     × (length m ≡ 65536 → length l ≡ 65536 → OwnServe es (run flat flatOutside es (systemAtPowerOn m l) .answers))

@@ -18,7 +18,7 @@ use Rattle.rules.specs.Registers.{written}
 use Rattle.rules.specs.Clock.{cpuClock, Clock, clock, stopped, slotClock, clockOf}
 use Rattle.rules.specs.Buffers.{Store}
 use Rattle.rules.specs.World.{System, clocked}
-use Rattle.rules.specs.Refusals.{accessRefusal, lentRefusal}
+use Rattle.rules.specs.Refusals.{accessRefusal, speedRefusal, lentRefusal}
 use Rattle.rules.specs.Calls.{grantBy, grant}
 use Rattle.rules.specs.Entries.{Outside, Entry, runBy, run, systemAtPowerOn}
 use Rattle.rules.specs.History.{Past, historyBy, history}
@@ -58,6 +58,7 @@ pub record RecheckNeverHits : Type 1 where
       → recheckHits (clocked σ n (run σ ω es s .system) .world .core) ≡ false
   -- a core at which it hits is refused with 1 by every call, whatever is asked
   pub access : (c : Core) (sum port : ℕ) → recheckHits c ≡ true → accessRefusal c sum port ≡ 1
+  pub speed : (c : Core) (sum code : ℕ) → recheckHits c ≡ true → speedRefusal c sum code ≡ 1
   pub grant : (c : Core) (sum memory latches n : ℕ) → recheckHits c ≡ true → lentRefusal c sum memory latches n ≡ 1
 
 -- not valid: power-on, but enabled, so that a slot would begin with a block of no bytes
@@ -96,4 +97,4 @@ pub record RecheckUnseen : Type 1 where
   pub grants : {M : Type 0} (σ : Store M) (s : System M) (n : ℕ) → grantBy clockWithRecheck σ s n ≡ grant σ s n
   -- the run of any list from any system, and its history from any past
   pub runs : {M C : Type 0} (σ : Store M) (ω : Outside M C) (es : List (Entry σ C)) (s : System M) → runBy clockWithRecheck σ ω es s ≡ run σ ω es s
-  pub histories : {M C : Type 0} (σ : Store M) (ω : Outside M C) (es : List (Entry σ C)) (p : Past M) → historyBy clockWithRecheck σ ω es p ≡ history σ ω es p
+  pub histories : {M C : Type 0} (σ : Store M) (ω : Outside M C) (es : List (Entry σ C)) (p : Past M) → historyBy validCore clockWithRecheck σ ω es p ≡ history σ ω es p

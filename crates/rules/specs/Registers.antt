@@ -81,7 +81,7 @@ carriedOutAs next byte c = pick (isOne next) (parameter next byte c) (register (
 abbrev pub inMode : ℕ → Core → Core
 inMode port c = withBlock (withZilog (eqb (port % 256) 0x0B) (c .block)) c
 
--- by what steers the pending parameters
+-- by what the calls go by
 module _ {D : Type 0} (δ : Steering D) where
   -- an accepted byte: what it does to the rest of the core, and what is pending after it
   unfoldable pub effectOver : ℕ → D → D

@@ -11,6 +11,7 @@ use Rattle.rules.specs.Parts.{withPending}
 use Rattle.rules.specs.Selection.{selects}
 use Rattle.rules.specs.Pending.{aLow, aHigh, lengthLow, lengthHigh, aTiming, bTiming, prescaler, bLow, bHigh, readMask, nothing}
 use Rattle.rules.specs.PowerOn.{powerOn}
+use Rattle.rules.specs.Validity.{validCoreIf}
 use Rattle.rules.specs.Steering.{Steering}
 use Rattle.rules.specs.declared.Core.{Core}
 
@@ -118,7 +119,7 @@ sequences =
       with = λ c d. record { pending = d .pending; others = c };
       next = λ d. parameterOf (d .pending .first);
       after = λ byte c d. record { pending = sequenceAfter byte (d .pending); others = c };
-      valid = λ d. validSequence (d .pending);
+      valid = λ d. validCoreIf (validSequence (d .pending)) (d .others);
     }
 
 abbrev pub sequencePowerOn : SequenceCore

@@ -1,10 +1,12 @@
--- The transfer slot (document 01: slot): the one that begins or runs, waiting in it, and who has the bus.
+-- The transfer slot (document 01: slot): the one that begins or runs, at the speed that the device has, waiting in it, and
+-- who has the bus.
 -- Assumes nothing.
 use Prim.Native.Nat.{ℕ, _+_, _*_}
 use mathlib.Core.Bool.{Bool, false, not}
 use mathlib.Core.List.{[], _∷_}
 use lib.Dec.{leb, ltb, eqb}
 use Rattle.rules.specs.Choice.{pick, every, any}
+use Rattle.rules.specs.Speed.{factor}
 use Rattle.rules.specs.declared.Slot.{Slot}
 use Rattle.rules.specs.declared.Core.{Core}
 
@@ -12,17 +14,24 @@ use Rattle.rules.specs.declared.Core.{Core}
 abbrev pub noSlot : Slot
 noSlot = record { elapsed = 0; bus = 0; length = 0; burst = false }
 
--- the slot's length: the bus time, or with a prescaler 32 clocks for each unit of it, which contain the bus time
+-- the bus time: a cycle of each port, at this speed
+unfoldable pub busTimeOf : ℕ → ℕ → ℕ → ℕ
+busTimeOf speed a b = factor speed * (a + b)
+
+unfoldable pub larger : ℕ → ℕ → ℕ
+larger x y = pick (ltb x y) y x
+
+-- the slot's length: the bus time, or with a prescaler the larger of it and 32 clocks for each unit, which contain it
 unfoldable pub slotLength : ℕ → ℕ → ℕ
-slotLength prescaler bus = pick (eqb prescaler 0) bus (32 * prescaler)
+slotLength prescaler bus = pick (eqb prescaler 0) bus (larger bus (32 * prescaler))
 
 -- the slot that the registers start: its bus time, its length, and whether it is burst
 abbrev pub newSlot : Core → Slot
 newSlot c =
     record {
       elapsed = 0;
-      bus = c .a .cycle + c .b .cycle;
-      length = slotLength (c .control .prescaler) (c .a .cycle + c .b .cycle);
+      bus = busTimeOf (c .control .speed) (c .a .cycle) (c .b .cycle);
+      length = slotLength (c .control .prescaler) (busTimeOf (c .control .speed) (c .a .cycle) (c .b .cycle));
       burst = c .control .burst;
     }
 

@@ -1,10 +1,12 @@
--- What steers the pending parameters of a device, over a way D to keep a device: its core, which parameter is next, what is
--- pending after a byte, and whether what is pending is valid. The rules have a number in the core; Sequences has another way.
+-- What the calls go by, over a way D to keep a device: its core, which parameter is next, what is pending after a byte, and
+-- whether the device is valid. The rules have a number in the core; Sequences has another way to keep what is pending, and
+-- At28 another validity.
 -- Assumes nothing.
 use Prim.Native.Nat.{ℕ}
 use mathlib.Core.Bool.{Bool}
 use Rattle.rules.specs.Parts.{withPending}
-use Rattle.rules.specs.Pending.{next, pendingAfter, validPending}
+use Rattle.rules.specs.Pending.{next, pendingAfter}
+use Rattle.rules.specs.Validity.{validIf, validCore}
 use Rattle.rules.specs.declared.Core.{Core}
 
 pub record Steering (D : Type 0) : Type 0 where
@@ -15,16 +17,24 @@ pub record Steering (D : Type 0) : Type 0 where
   pub next : D → ℕ
   -- the device after a byte: this core in place of its own, and what is pending then
   pub after : ℕ → Core → D → D
-  -- what is pending is valid
+  -- the core is valid, and so is what is pending
   pub valid : D → Bool
 
--- the rules' own: the number in the core
-abbrev pub bits : Steering Core
-bits =
+-- the number in the core, by which cores are valid
+abbrev pub bitsBy : (Core → Bool) → Steering Core
+bitsBy ν =
     record {
       core = λ c. c;
       with = λ c d. c;
       next = λ d. next (d .pending);
       after = λ byte c d. withPending (pendingAfter byte (d .pending)) c;
-      valid = λ d. validPending (d .pending);
+      valid = ν;
     }
+
+-- the rules' own
+abbrev pub bits : Steering Core
+bits = bitsBy validCore
+
+-- with a sum of clock counts
+abbrev pub validOver : {D : Type 0} → Steering D → D → ℕ → Bool
+validOver δ d sum = validIf (δ .valid d) sum

@@ -1,4 +1,4 @@
--- Validity (document 01: soundness) as tests, each one of document 01's list and nothing else.
+-- Validity (document 01: soundness) as tests, each one of document 01's list, as later requests amend it, and nothing else.
 -- Assumes nothing.
 use Prim.Native.Nat.{ℕ, _+_, _%_}
 use mathlib.Core.Bool.{Bool, not}
@@ -6,8 +6,9 @@ use mathlib.Core.List.{[], _∷_}
 use lib.Dec.{leb, ltb, eqb}
 use Rattle.rules.specs.Choice.{pick, every, any, means}
 use Rattle.rules.specs.Blocks.{blockCount}
+use Rattle.rules.specs.Speed.{isSpeed}
 use Rattle.rules.specs.Slots.{unmoved}
-use Rattle.rules.specs.Steering.{Steering, bits}
+use Rattle.rules.specs.Pending.{validPending}
 use Rattle.rules.specs.declared.Port.{Port}
 use Rattle.rules.specs.declared.Block.{Block}
 use Rattle.rules.specs.declared.Readback.{Readback}
@@ -15,7 +16,7 @@ use Rattle.rules.specs.declared.Slot.{Slot}
 use Rattle.rules.specs.declared.Clocks.{Clocks}
 use Rattle.rules.specs.declared.Core.{Core}
 
--- a cycle takes 2 to 4 clocks
+-- a cycle takes 2 to 4 clocks at 28 MHz
 unfoldable pub validPort : Port → Bool
 validPort p = every (leb 2 (p .cycle) ∷ leb (p .cycle) 4 ∷ [])
 
@@ -27,14 +28,25 @@ validReadback r = every (leb (r .mask) 127 ∷ leb (r .position) 6 ∷ [])
 unfoldable pub restingSlot : Slot → Bool
 restingSlot s = every (eqb (s .bus) 0 ∷ eqb (s .length) 0 ∷ not (s .burst) ∷ [])
 
--- a slot is its bus time, or a multiple of 32 from 32 to 8,160
+-- the longest bus time, two cycles of 4 at 3.5 MHz, and the longest slot, 255 units of 32 clocks
+abbrev pub mostBus : ℕ
+mostBus = 64
+
+abbrev pub mostLength : ℕ
+mostLength = 8160
+
+-- a length is one with a prescaler: a multiple of 32 from 32 to 8,160
+unfoldable pub prescaledLength : ℕ → Bool
+prescaledLength n = every (leb 32 n ∷ leb n mostLength ∷ eqb (n % 32) 0 ∷ [])
+
+-- the length equals the bus time, or is one with a prescaler that the bus time fits into
 unfoldable pub validLength : Slot → Bool
 validLength s =
-    any (eqb (s .length) (s .bus) ∷ every (leb 32 (s .length) ∷ leb (s .length) 8160 ∷ eqb (s .length % 32) 0 ∷ []) ∷ [])
+    any (eqb (s .length) (s .bus) ∷ every (prescaledLength (s .length) ∷ leb (s .bus) (s .length) ∷ []) ∷ [])
 
--- with clocks elapsed the bus time is 4 to 8, the length is a slot's, and fewer clocks than it have elapsed
+-- with clocks elapsed the bus time is 4 to 64, the length is a slot's, and fewer clocks than it have elapsed
 unfoldable pub runningSlot : Slot → Bool
-runningSlot s = every (leb 4 (s .bus) ∷ leb (s .bus) 8 ∷ validLength s ∷ ltb (s .elapsed) (s .length) ∷ [])
+runningSlot s = every (leb 4 (s .bus) ∷ leb (s .bus) mostBus ∷ validLength s ∷ ltb (s .elapsed) (s .length) ∷ [])
 
 -- disabled means that no clock of a slot has elapsed
 unfoldable pub validSlot : Bool → Slot → Bool
@@ -51,6 +63,7 @@ validCoreIf pending c =
     (validPort (c .a)
     ∷ validPort (c .b)
     ∷ leb (c .block .counter) 65536
+    ∷ isSpeed (c .control .speed)
     ∷ validReadback (c .readback)
     ∷ pending
     ∷ validSlot (c .enabled) (c .slot)
@@ -65,17 +78,13 @@ total k = k .bus + k .held + k .cpu
 abbrev pub most64 : ℕ
 most64 = 18446744073709551615
 
--- a valid core, and a sum of clock counts that fits 64 bits
-unfoldable pub validIf : Bool → Core → ℕ → Bool
-validIf pending c sum = every (validCoreIf pending c ∷ leb sum most64 ∷ [])
+-- by whether the core is valid: and a sum of clock counts that fits 64 bits
+unfoldable pub validIf : Bool → ℕ → Bool
+validIf core sum = every (core ∷ leb sum most64 ∷ [])
 
--- by what steers the pending parameters
-abbrev pub validOver : {D : Type 0} → Steering D → D → ℕ → Bool
-validOver δ d sum = validIf (δ .valid d) (δ .core d) sum
-
--- with the number in the core
+-- with the number of the pending parameters in the core
 abbrev pub validCore : Core → Bool
-validCore c = validCoreIf (bits .valid c) c
+validCore c = validCoreIf (validPending (c .pending)) c
 
 abbrev pub valid : Core → ℕ → Bool
-valid c sum = validOver bits c sum
+valid c sum = validIf (validCore c) sum

@@ -13,7 +13,7 @@ pub struct Port {
     pub io: bool,
     // Bits 5-4 of WR1 or WR2: 0 decrements the pointer, 1 increments it, any other value keeps it fixed.
     pub step: u8,
-    // Cycle length in clocks; valid from 2 to 4.
+    // Cycle length in clocks at 28 MHz; valid from 2 to 4.
     pub cycle: u8,
 }
 
@@ -33,12 +33,15 @@ pub struct Block {
 pub struct Control {
     // From port A to port B; otherwise from B to A.
     pub forward: bool,
-    // Fixed time for each byte in units of 32 clocks, 0 to 255; 0 is off.
+    // Least time for each byte in units of 32 clocks, 0 to 255; 0 is off.
     pub prescaler: u8,
     // Burst mode; otherwise continuous.
     pub burst: bool,
     // Auto restart at the end of the block.
     pub restart: bool,
+    // Speed code of the processor: 0 is 3.5 MHz, 1 is 7, 2 is 14 and 3 is 28; valid up to 3. Each clock of a cycle takes 8, 4,
+    // 2 or 1 clocks of 28 MHz.
+    pub speed: u8,
 }
 
 // The two bits of the status byte that change.
@@ -66,9 +69,9 @@ pub struct Readback {
 pub struct Slot {
     // Clocks elapsed (document 01: spent), 0 to 8,159.
     pub elapsed: u16,
-    // Bus time in clocks, 4 to 8.
+    // Bus time in clocks, 4 to 64.
     pub bus: u16,
-    // Length in clocks: the bus time, or a multiple of 32 up to 8,160.
+    // Length in clocks: the bus time, or a multiple of 32 up to 8,160 that is not below it.
     pub length: u16,
     // The wait after the bus time is given to the processor.
     pub burst: bool,

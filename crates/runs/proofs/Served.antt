@@ -1,5 +1,5 @@
--- A session's calls write bytes and lend its own buffers, which have their length: so what holds of every list's answers
--- leaves neither 1, 4 nor 5.
+-- A session's calls write bytes and lend its own buffers, which have their length, and none sets a speed: so what holds of
+-- every list's answers leaves neither 1, 4, 5 nor 7.
 -- Assumes nothing.
 use Prim.Native.Nat.{ℕ}
 use mathlib.Core.List.{List, [], _∷_}
@@ -7,7 +7,7 @@ use lib.ListN.{replicate, length-replicate}
 use Rattle.rules.specs.Buffers.{flat}
 use Rattle.rules.specs.World.{System}
 use Rattle.rules.specs.Entries.{Poke, flatOutside, Entry, enter, run, runOver}
-use Rattle.rules.specs.Reached.{NoneIs, Lends, WrongMemory, WrongLatches, OwnServe}
+use Rattle.rules.specs.Reached.{NoneIs, Lends, WrongMemory, WrongLatches, OwnServe, AsksAbove, OnlyAbove}
 use Rattle.rules.proofs.Reached.{answers-reached}
 use Rattle.records.specs.declared.Record.{Record}
 use Rattle.session.specs.Effects.{entryOf}
@@ -26,9 +26,21 @@ module _ (xs : List ℕ) where
         (λ z. each-kind xs (λ (e : Entry flat (List Poke)). Lends WrongLatches e → ⊥) r (λ l. l) (λ l. l) (λ l. l) (λ ps l. l) (h .1 z), rest .1),
       )
 
+  -- 7 is answered to speed calls only
+  no-speed : (rs : List Record) (s : System (List ℕ)) → OnlyAbove (entriesOf xs rs) (run flat flatOutside (entriesOf xs rs) s .answers) → NoneIs 7 (run flat flatOutside (entriesOf xs rs) s .answers)
+  unfolding entriesOf runOver OnlyAbove NoneIs
+  no-speed [] s h = tt
+  no-speed (r ∷ rs) s h =
+      (λ z. each-kind xs (λ (e : Entry flat (List Poke)). AsksAbove e → ⊥) r (λ l. l) (λ l. l) (λ l. l) (λ ps l. l) (h .0 z), no-speed rs _ (h .1))
+
 pub served : EverySessionServed
 served xs small =
     let answers = answers-reached (replicate 65536 0) (replicate 65536 0) (sessionEntries xs) (session-writes xs small) in
     let size = length-replicate {A = ℕ} 65536 0 in
-    let serve = buffers-serve xs (decoded xs .records) start (answers .1 size size) in
-    record { device = answers .0; memory = serve .0; latches = serve .1 }
+    let serve = buffers-serve xs (decoded xs .records) start (answers .2 size size) in
+    record {
+      device = answers .0;
+      memory = serve .0;
+      latches = serve .1;
+      speed = no-speed xs (decoded xs .records) start (answers .1);
+    }

@@ -10,6 +10,7 @@ use Rattle.rules.specs.declared.Core.{Core}
 use Rattle.zxndma.specs.declared.Device.{Device}
 use Rattle.zxndma.specs.declared.WriteAnswer.{WriteAnswer}
 use Rattle.zxndma.specs.declared.ReadAnswer.{ReadAnswer}
+use Rattle.zxndma.specs.declared.SpeedAnswer.{SpeedAnswer}
 use Rattle.zxndma.specs.declared.GrantAnswer.{GrantAnswer}
 
 abbrev pub device : Core → Clocks → Device
@@ -25,6 +26,10 @@ writeAnswer r = record { number = r .answered .number; device = device (r .core)
 -- the answer to a read: the byte too
 abbrev pub readAnswer : Reply → ReadAnswer
 readAnswer r = record { number = r .answered .number; byte = r .answered .byte; device = device (r .core) (r .clocks) }
+
+-- the answer to a speed call
+abbrev pub speedAnswer : Reply → SpeedAnswer
+speedAnswer r = record { number = r .answered .number; device = device (r .core) (r .clocks) }
 
 -- a device beside the two buffers that a caller lends
 abbrev pub systemOf : Device → List ℕ → List ℕ → System (List ℕ)

@@ -1,25 +1,26 @@
-// The device: power on, port writes, port reads and grants of clocks. A device goes in by value and comes back with the
-// answer; a refused call hands it back as it came.
+// The device: power on, port writes, port reads, speed calls and grants of clocks. A device goes in by value and comes back
+// with the answer; a refused call hands it back as it came.
 ghost use mathlib.Core.Path.{_≡_};
 ghost use Prim.Native.Nat.{_*_, _-_, _<_};
 ghost use Rattle.rules.specs.Validity.{total, valid};
 ghost use Rattle.rules.specs.Buffers.{lengthRefusal, flat};
 ghost use Rattle.rules.specs.World.{clocked};
 ghost use Rattle.rules.specs.Refusals.{lentRefusal, grantRefusal};
-ghost use Rattle.rules.specs.Calls.{writeReply, readReply, grant};
+ghost use Rattle.rules.specs.Calls.{writeReply, readReply, speedReply, grant};
 ghost use Rattle.rules.specs.Parts.{withSlot};
 ghost use Rattle.rules.specs.Slots.{newSlot};
 ghost use Rattle.rules.specs.Clock.{cpuClock, kindAt};
 ghost use Rattle.rules.specs.WholeSlots.{slotsWithin, slotsPassed};
 ghost use Rattle.rules.specs.Turns.{Ready, Passed};
 ghost use Rattle.clocking.specs.Answers.{borrowed, countedWithin};
-ghost use Rattle.zxndma.specs.Answers.{device, deviceAtPowerOn, writeAnswer, readAnswer, systemOf, grantAnswer};
+ghost use Rattle.zxndma.specs.Answers.{device, deviceAtPowerOn, writeAnswer, readAnswer, speedAnswer, systemOf, grantAnswer};
 use clocking::clock;
 use clocking::count;
 use clocking::slots;
 use clocking::span;
 use clocking::stretch;
 use clocking::transfer;
+use parts::part;
 use parts::power_on;
 use parts::refusal;
 use parts::slot;
@@ -53,6 +54,15 @@ pub struct ReadAnswer {
     pub number: u8,
     // The byte read, 0 for a refused read.
     pub byte: u8,
+    // The device afterwards.
+    pub device: Device,
+}
+
+// The answer to a speed call.
+#[repr(C)]
+pub struct SpeedAnswer {
+    // 0 for accepted, else the refusal number: 1 or 7.
+    pub number: u8,
     // The device afterwards.
     pub device: Device,
 }
@@ -130,6 +140,25 @@ impl Device {
         ReadAnswer {
             number,
             byte: 0,
+            device: self,
+        }
+    }
+
+    // The speed of the processor becomes that of a code: 0 is 3.5 MHz, 1 is 7, 2 is 14 and 3 is 28. Whoever has the bus; a slot
+    // that runs keeps its figures. Refused with 1 or 7, and then nothing changes.
+    pub fn set_speed(self, code: u8) -> SpeedAnswer
+        ensures { λ r. ⌜ r ≡ speedAnswer (speedReply (self .core) (self .clocks) code) ⌝ }
+    {
+        let core = self.core;
+        let clocks = self.clocks;
+        let number = refusal::speed_number(core, clocks, code);
+        if number == 0 {
+            let next = part::at_speed(code, core);
+            let device = Device { core: next, clocks };
+            return SpeedAnswer { number: 0, device };
+        }
+        SpeedAnswer {
+            number,
             device: self,
         }
     }

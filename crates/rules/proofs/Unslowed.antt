@@ -1,0 +1,430 @@
+-- At code 3 the rules are those at 28 MHz: a slot whose bus time is at most 8 is valid by both tests or by neither, the slot
+-- that two valid cycles begin is one such, and so what the calls go by stays the same along every list.
+-- Assumes nothing.
+use Prim.Native.Nat.{ℕ, _+_, _*_, _≤_}
+use native.Mathlib.Omega.{arith}
+use mathlib.Core.Path.{_≡_, refl, sym, _∙_, ap, subst}
+use mathlib.Core.Bool.{Bool, true, false}
+use mathlib.Core.List.{List, [], _∷_}
+use lib.Dec.{leb, ltb, eqb}
+use borrow.Author.Tests.{eqb-true, eqb-false, le-leb, leb-true, lt-ltb}
+use Rattle.rules.specs.Choice.{pick, every, any}
+use Rattle.rules.specs.Parts.{withSlot}
+use Rattle.rules.specs.Speed.{atSpeed}
+use Rattle.rules.specs.Slots.{noSlot, busTimeOf, larger, slotLength, newSlot, slotOf}
+use Rattle.rules.specs.PowerOn.{powerOn}
+use Rattle.rules.specs.Validity.{prescaledLength, validLength, runningSlot, validSlot, validCore, validCoreIf, total}
+use Rattle.rules.specs.Clock.{slotClock, clockOf}
+use Rattle.rules.specs.Buffers.{Store, Buffers}
+use Rattle.rules.specs.World.{System, system}
+use Rattle.rules.specs.Refusals.{accessRefusal}
+use Rattle.rules.specs.Calls.{Reply, Answer, unlessRefused, beside, writeReply, readReply, grant, writeReplyOver, readReplyOver, speedReplyOver, grantOver}
+use Rattle.rules.specs.Entries.{Outside, Entry, portWrite, portRead, speedCall, clockGrant, otherGrant, outsideChange, besideBuffers, enter, Run, runOver, run}
+use Rattle.rules.specs.History.{Past, EntryNoted, History, withCore, writePassed, notedUnless, grantNotedBy, noteEntry, historyBy, history}
+use Rattle.rules.specs.Accounts.{numbersOf}
+use Rattle.rules.specs.At28.{slotLengthAt28, newSlotAt28, slotOfAt28, clockAt28, validLengthAt28, runningSlotAt28, validSlotAt28, validCoreAt28, at28}
+use Rattle.rules.specs.Unslowed.{allowedAt28, Unslowed, isSpeedCall, others, toOthers, AsksThree, NoSpeedCall, OnlyThree, SameButSpeed, NotedButSpeed, FullSpeedStands}
+use Rattle.rules.specs.Opened.{opened}
+use Rattle.rules.specs.declared.Slot.{Slot}
+use Rattle.rules.specs.declared.Clocks.{Clocks}
+use Rattle.rules.specs.declared.Core.{Core}
+use Rattle.rules.proofs.Choice.{clash, pick-true, pick-false, pick-cases, pick-both, both-picked, either, all-true, true-all, every-stop, every-stop-later, every-at, any-first, any-more, any-cases, any-none}
+use Rattle.rules.proofs.Speed.{bus-full}
+use Rattle.rules.proofs.Validity.{core-parts, port-cycle, prescaled-facts}
+use Rattle.rules.proofs.Calls.{access, granted, valid-core}
+use Rattle.rules.proofs.World.{clocked-keeps}
+use Rattle.rules.proofs.Framing.{written-framed, read-framed, clock-timed}
+use Rattle.rules.proofs.Alike.{Agrees, write-same, read-same, grant-same, entry-same, note-same, passed-keeps}
+
+-- ---- a running slot with a bus time of at most 8
+
+abbrev Short : Slot → Type 0
+Short s = (s .elapsed ≡ 0 → ⊥) → s .bus ≤ 8
+
+rest-short : Short noSlot
+rest-short n = absurd (n refl)
+
+allowed-short : (s : Slot) → allowedAt28 s ≡ true → Short s
+unfolding allowedAt28 runningSlotAt28
+allowed-short s e n =
+    any-cases _ _ e (λ z. absurd (n (eqb-true _ _ z)))
+    (λ r. any-cases _ _ r (λ d. leb-true _ _ (all-true _ d .1 .0)) any-none)
+
+-- its length is valid by both tests or by neither
+length-alike : (s : Slot) → s .bus ≤ 8 → validLengthAt28 s ≡ validLength s
+unfolding validLengthAt28 validLength prescaledLength
+length-alike s h =
+    ap (λ (t : Bool). any (eqb (s .length) (s .bus) ∷ t ∷ []))
+    (either (prescaledLength (s .length))
+    (λ e.
+    let l = prescaled-facts (s .length) e .0 in
+    e ∙ sym (true-all (prescaledLength (s .length) ∷ leb (s .bus) (s .length) ∷ []) (e, (le-leb (s .bus) (s .length) (omega arith), tt))))
+    (λ e. e ∙ sym (every-stop _ _ e)))
+
+running-alike : (s : Slot) → s .bus ≤ 8 → runningSlotAt28 s ≡ runningSlot s
+unfolding runningSlotAt28 runningSlot
+running-alike s h =
+    ap (λ (t : Bool). every (leb 4 (s .bus) ∷ leb (s .bus) 8 ∷ t ∷ ltb (s .elapsed) (s .length) ∷ [])) (length-alike s h)
+    ∙ ap (λ (t : Bool). every (leb 4 (s .bus) ∷ t ∷ validLength s ∷ ltb (s .elapsed) (s .length) ∷ []))
+    (le-leb (s .bus) 8 h ∙ sym (le-leb (s .bus) 64 (omega arith)))
+
+slot-alike : (t : Bool) (s : Slot) → Short s → validSlotAt28 t s ≡ validSlot t s
+unfolding validSlotAt28 validSlot
+slot-alike t s h =
+    both-picked _≡_ (eqb (s .elapsed) 0) _ _ _ _ (λ e. refl)
+    (λ e. ap (λ (r : Bool). every (t ∷ r ∷ [])) (running-alike s (h (eqb-false _ _ e))))
+
+-- ---- a core at code 3
+
+short-alike : (c : Core) → c .control .speed ≡ 3 → Short (c .slot) → validCoreAt28 c ≡ validCore c
+unfolding validCoreAt28 validCoreIf every pick
+short-alike c e h = rw (slot-alike (c .enabled) (c .slot) h) (rw e refl)
+
+-- a running slot that is not allowed is not valid at 28 MHz
+not-allowed : (c : Core) → allowedAt28 (c .slot) ≡ false → validCoreAt28 c ≡ false
+unfolding validCoreAt28 validSlotAt28 allowedAt28
+not-allowed c a =
+    every-at 5 _
+    (either (eqb (c .slot .elapsed) 0)
+    (λ z. clash (sym a ∙ any-first _ _ z))
+    (λ z.
+    pick-false _ _ _ z
+    ∙ every-stop-later (c .enabled) _
+    (every-stop _ []
+    (either (runningSlotAt28 (c .slot)) (λ r. clash (sym a ∙ any-more _ _ (any-first _ _ r))) (λ r. r)))))
+
+every-true : (t : Bool) → every (t ∷ true ∷ []) ≡ t
+unfolding every pick
+every-true true = refl
+every-true false = refl
+
+valid-at28 : (c : Core) → c .control .speed ≡ 3 → validCoreAt28 c ≡ every (validCore c ∷ allowedAt28 (c .slot) ∷ [])
+valid-at28 c e =
+    either (allowedAt28 (c .slot))
+    (λ a.
+    short-alike c e (allowed-short (c .slot) a)
+    ∙ sym (ap (λ (t : Bool). every (validCore c ∷ t ∷ [])) a ∙ every-true (validCore c)))
+    (λ a. not-allowed c a ∙ sym (every-stop-later (validCore c) _ (every-stop _ [] a)))
+
+-- at code 3 and, if it is valid, with a short slot
+abbrev At3 : Core → Type 0
+At3 c = (c .control .speed ≡ 3) × (validCore c ≡ true → Short (c .slot))
+
+core-alike : (c : Core) → At3 c → validCoreAt28 c ≡ validCore c
+core-alike c f =
+    either (validCore c) (λ v. short-alike c (f .0) (f .1 v))
+    (λ v. valid-at28 c (f .0) ∙ every-stop _ _ v ∙ sym v)
+
+-- ---- the clock
+
+-- cycles of at most 4, and code 3
+abbrev Cycles : ℕ → ℕ → ℕ → ℕ → Type 0
+Cycles a b speed pending = (a ≤ 4) × (b ≤ 4) × (speed ≡ 3)
+
+abbrev Timed3 : Core → Type 0
+Timed3 c = Cycles (c .a .cycle) (c .b .cycle) (c .control .speed) (c .pending)
+
+bus-alike : (c : Core) → c .control .speed ≡ 3 → newSlot c .bus ≡ c .a .cycle + c .b .cycle
+bus-alike c e = ap (λ (n : ℕ). busTimeOf n (c .a .cycle) (c .b .cycle)) e ∙ bus-full (c .a .cycle) (c .b .cycle)
+
+-- with a prescaler 32 clocks and more contain the bus time
+slot-length-alike : (prescaler bus : ℕ) → bus ≤ 8 → slotLengthAt28 prescaler bus ≡ slotLength prescaler bus
+unfolding slotLengthAt28 slotLength larger
+slot-length-alike prescaler bus h =
+    both-picked _≡_ (eqb prescaler 0) _ _ _ _ (λ e. refl)
+    (λ e. let n = eqb-false prescaler 0 e in sym (pick-true _ _ _ (lt-ltb bus (32 * prescaler) (omega (arith, n)))))
+
+new-alike : (c : Core) → Timed3 c → newSlotAt28 c ≡ newSlot c
+new-alike c p =
+    let b = bus-alike c (p .2) in
+    ap (λ (n : ℕ). record { elapsed = 0; bus = c .a .cycle + c .b .cycle; length = n; burst = c .control .burst })
+    (slot-length-alike (c .control .prescaler) (c .a .cycle + c .b .cycle) (omega (arith, p .0, p .1)))
+    ∙ sym (ap (λ (n : ℕ). record { elapsed = 0; bus = n; length = slotLength (c .control .prescaler) n; burst = c .control .burst }) b)
+
+slot-of-alike : (c : Core) → Timed3 c → slotOfAt28 c ≡ slotOf c
+unfolding slotOfAt28 slotOf
+slot-of-alike c k = both-picked _≡_ (eqb (c .slot .elapsed) 0) _ _ _ _ (λ e. new-alike c k) (λ e. refl)
+
+clock-alike : (c : Core) → Timed3 c → clockAt28 c ≡ clockOf c
+unfolding clockAt28 clockOf
+clock-alike c k =
+    both-picked _≡_ (c .enabled) _ _ _ _
+    (λ e. ap (λ (s : Slot). slotClock (c .slot .elapsed + 1) (withSlot s c)) (slot-of-alike c k))
+    (λ e. refl)
+
+clock-timed3 : (c : Core) → Timed3 c → Timed3 (clockOf c .next)
+clock-timed3 c k = clock-timed Cycles (λ s. Unit {0}) tt c (k, tt) tt .0
+
+-- and from a short slot, short ones
+of-short : (c : Core) → Timed3 c → Short (c .slot) → slotOf c .bus ≤ 8
+unfolding slotOf
+of-short c k h =
+    pick-cases (λ (s : Slot). s .bus ≤ 8) (eqb (c .slot .elapsed) 0) _ _
+    (λ e. let b = bus-alike c (k .2) in omega (arith, b, k .0, k .1))
+    (λ e. h (eqb-false _ _ e))
+
+-- both together
+abbrev TimedShort : Core → Type 0
+TimedShort c = Timed3 c × Short (c .slot)
+
+clock-short : (c : Core) → TimedShort c → TimedShort (clockOf c .next)
+clock-short c k = clock-timed Cycles Short rest-short c k (λ n. of-short c (k .0) (k .1))
+
+-- ---- every entry is answered and noted alike
+
+valid-timed : (c : Core) → c .control .speed ≡ 3 → validCore c ≡ true → Timed3 c
+valid-timed c e v = let p = core-parts c v in (port-cycle _ (p .a) .most, port-cycle _ (p .b) .most, e)
+
+agrees : (c : Core) → At3 c → Agrees validCoreAt28 clockAt28 Timed3 clock-alike clock-timed3 c
+agrees c f = record { tests = core-alike c f; clocks = valid-timed c (f .0) }
+
+unslowed-at3 : (c : Core) → Unslowed c → At3 c
+unslowed-at3 c u = (u .speed, λ v. allowed-short (c .slot) (u .slot v))
+
+-- ---- what an entry leaves
+
+-- an accepted one is valid, so that its slot is short
+framed : (c : Core) → At3 c → validCore c ≡ true → (c .control .speed ≡ 3) × Short (c .slot)
+framed c f v = (f .0, f .1 v)
+
+short-at3 : (c : Core) → (c .control .speed ≡ 3) × Short (c .slot) → At3 c
+short-at3 c f = (f .0, λ v. f .1)
+
+unless-at3 : (number byte : ℕ) (next c : Core) (k : Clocks) → (number ≡ 0 → At3 next) → At3 c → At3 (unlessRefused number byte next c k .core)
+unfolding unlessRefused
+unless-at3 number byte next c k f g = pick-cases (λ (r : Reply). At3 (r .core)) _ _ _ (λ e. f (eqb-true _ _ e)) (λ e. g)
+
+-- a port write or a port read that is accepted
+access-framed : (c : Core) (sum port : ℕ) → At3 c → accessRefusal c sum port ≡ 0 → (c .control .speed ≡ 3) × Short (c .slot)
+access-framed c sum port f e = framed c f (valid-core c sum (access c sum port e .state))
+
+write-at3 : (c : Core) (k : Clocks) (port byte : ℕ) → At3 c → At3 (writeReply c k port byte .core)
+unfolding writeReplyOver
+write-at3 c k port byte f =
+    unless-at3 _ _ _ c k (λ e. short-at3 _ (written-framed 3 Short rest-short port byte c (access-framed c (total k) port f e))) f
+
+read-at3 : (c : Core) (k : Clocks) (port : ℕ) → At3 c → At3 (readReply c k port .core)
+unfolding readReplyOver
+read-at3 c k port f =
+    unless-at3 _ _ _ c k (λ e. short-at3 _ (read-framed 3 Short rest-short c (access-framed c (total k) port f e))) f
+
+grant-at3 : {M : Type 0} (σ : Store M) (s : System M) (n : ℕ) → At3 (s .world .core) → At3 (grant σ s n .system .world .core)
+unfolding grantOver
+grant-at3 σ s n f =
+    pick-cases (λ (a : Answer _). At3 (a .system .world .core)) _ _ _
+    (λ e.
+    let g = granted σ _ _ _ n (eqb-true _ _ e) in
+    let v = valid-core _ _ (g .state) in
+    let k = clocked-keeps σ (λ (t : System _). TimedShort (t .world .core)) (λ t. clock-short (t .world .core)) n s (valid-timed _ (f .0) v, f .1 v) in
+    (k .0 .2, λ w. k .1))
+    (λ e. f)
+
+-- so do the clocks of an accepted grant, noted
+passed-at3 : {M : Type 0} (σ : Store M) (b : Buffers M) (n : ℕ) (p : Past M) → At3 (p .world .core) → At3 (grantNotedBy validCore clockOf σ b n p .past .world .core)
+unfolding notedUnless
+passed-at3 σ b n p f =
+    pick-cases (λ (q : Past _). At3 (q .world .core)) _ _ _
+    (λ e.
+    let g = granted σ (p .world .core) (p .sum) b n (eqb-true _ _ e) in
+    let v = valid-core _ _ (g .state) in
+    let k = passed-keeps σ TimedShort clock-short n (record { world = p .world; sum = p .sum + n; events = p .events }) (valid-timed _ (f .0) v, f .1 v) in
+    (k .0 .2, λ w. k .1))
+    (λ e. f)
+
+-- a speed call of code 3 leaves a core at code 3 as it is
+same-speed : (c : Core) (code : ℕ) → c .control .speed ≡ 3 → code ≡ 3 → atSpeed code c ≡ c
+same-speed c code e d = ap (λ (n : ℕ). atSpeed n c) (d ∙ sym e)
+
+module _ {M C : Type 0} (σ : Store M) (ω : Outside M C) where
+  -- a speed call, or another entry
+  by-kind : (P : Entry σ C → Type 0) → ((code : ℕ) → P (speedCall code)) → ((e : Entry σ C) → isSpeedCall e ≡ false → P e) → (e : Entry σ C) → P e
+  by-kind P f g (portWrite port byte) = g (portWrite port byte) refl
+  by-kind P f g (portRead port) = g (portRead port) refl
+  by-kind P f g (speedCall code) = f code
+  by-kind P f g (clockGrant n) = g (clockGrant n) refl
+  by-kind P f g (otherGrant n b wrong) = g (otherGrant n b wrong) refl
+  by-kind P f g (outsideChange x) = g (outsideChange x) refl
+
+  entry-at3 : (e : Entry σ C) (s : System M) → isSpeedCall e ≡ false → At3 (s .world .core) → At3 (enter σ ω e s .system .world .core)
+  entry-at3 (portWrite port byte) s n f = write-at3 (s .world .core) (s .clocks) port byte f
+  entry-at3 (portRead port) s n f = read-at3 (s .world .core) (s .clocks) port f
+  entry-at3 (speedCall code) s n f = clash (sym n)
+  entry-at3 (clockGrant n) s m f = grant-at3 σ s n f
+  entry-at3 (otherGrant n b wrong) s m f = grant-at3 σ (besideBuffers b s) n f
+  entry-at3 (outsideChange x) s n f = f
+
+  speed-stays : (code : ℕ) (s : System M) → s .world .core .control .speed ≡ 3 → (enter σ ω (speedCall code) s .answered .number ≡ 0 → code ≡ 3) → enter σ ω (speedCall code) s .system ≡ s
+  unfolding speedReplyOver unlessRefused
+  speed-stays code s e =
+      pick-cases
+      (λ (r : Reply). (r .answered .number ≡ 0 → code ≡ 3) → beside (s .world .buffers) r .system ≡ s)
+      _ _ _
+      (λ z h. ap (λ (c : Core). system c (s .world .buffers) (s .clocks)) (same-speed (s .world .core) code e (h refl)))
+      (λ z h. refl)
+
+  -- ---- lists
+
+  -- an entry that is no speed call stays in the list, and so does its answer
+  other-stays : (e : Entry σ C) (es : List (Entry σ C)) → isSpeedCall e ≡ false → others (e ∷ es) ≡ e ∷ others es
+  unfolding others
+  other-stays e es n = pick-false _ _ _ n
+
+  answer-stays : {X : Type 0} (e : Entry σ C) (es : List (Entry σ C)) (a : X) (as′ : List X) → isSpeedCall e ≡ false → toOthers (e ∷ es) (a ∷ as′) ≡ a ∷ toOthers es as′
+  unfolding toOthers
+  answer-stays e es a as′ n = pick-false _ _ _ n
+
+  -- a run, and one at 28 MHz of another list
+  abbrev runAt28 : List (Entry σ C) → System M → Run M
+  runAt28 es s = runOver at28 clockAt28 σ ω es s
+
+  abbrev RunsAlike : List (Entry σ C) → System M → Type 0
+  RunsAlike es s = SameButSpeed es (run σ ω es s) (runAt28 (others es) s)
+
+  other-runs : (e : Entry σ C) (es : List (Entry σ C)) (s : System M) → isSpeedCall e ≡ false → At3 (s .world .core) → RunsAlike es (enter σ ω e s .system) → RunsAlike (e ∷ es) s
+  unfolding runOver
+  other-runs e es s n f r =
+      let a = entry-same _ _ _ _ _ σ ω e s (agrees (s .world .core) f) in
+      rw (other-stays e es n)
+      (record {
+        system = r .system ∙ ap (λ (x : Answer M). runAt28 (others es) (x .system) .system) (sym a);
+        answers =
+            answer-stays e es _ _ n
+            ∙ ap (λ l. enter σ ω e s .answered ∷ l) (r .answers)
+            ∙ ap (λ (x : Answer M). x .answered ∷ runAt28 (others es) (x .system) .answers) (sym a);
+      })
+
+  speed-runs : (code : ℕ) (es : List (Entry σ C)) (s : System M) → enter σ ω (speedCall code) s .system ≡ s → RunsAlike es s → RunsAlike (speedCall code ∷ es) s
+  unfolding runOver others toOthers pick
+  speed-runs code es s e r =
+      record {
+        system = ap (λ (t : System M). run σ ω es t .system) e ∙ r .system;
+        answers = ap (λ (t : System M). toOthers es (run σ ω es t .answers)) e ∙ r .answers;
+      }
+
+  abbrev Only3 : List (Entry σ C) → System M → Type 0
+  Only3 es s = OnlyThree es (numbersOf (run σ ω es s .answers))
+
+  first-only : (e : Entry σ C) (es : List (Entry σ C)) (s : System M) → Only3 (e ∷ es) s → (enter σ ω e s .answered .number ≡ 0 → AsksThree e) × Only3 es (enter σ ω e s .system)
+  unfolding runOver OnlyThree numbersOf
+  first-only e es s o = o
+
+  runs-alike : (es : List (Entry σ C)) (s : System M) → At3 (s .world .core) → Only3 es s → RunsAlike es s
+  unfolding runOver others toOthers
+  runs-alike [] s f o = record { system = refl; answers = refl }
+  runs-alike (x ∷ es) s f o =
+      by-kind (λ (e : Entry σ C). Only3 (e ∷ es) s → RunsAlike (e ∷ es) s)
+      (λ code o.
+      let h = first-only (speedCall code) es s o in
+      let e = speed-stays code s (f .0) (h .0) in
+      speed-runs code es s e (runs-alike es s f (subst (Only3 es) e (h .1))))
+      (λ e n o. other-runs e es s n f (runs-alike es _ (entry-at3 e s n f) (first-only e es s o .1)))
+      x o
+
+  plain-runs : (es : List (Entry σ C)) (s : System M) → At3 (s .world .core) → NoSpeedCall es → run σ ω es s ≡ runAt28 es s
+  unfolding runOver NoSpeedCall
+  plain-runs [] s f n = refl
+  plain-runs (e ∷ es) s f n =
+      ap (λ (r : Run M). record { answers = enter σ ω e s .answered ∷ r .answers; system = r .system })
+      (plain-runs es _ (entry-at3 e s (n .0) f) (n .1))
+      ∙ ap (λ (x : Answer M). record { answers = x .answered ∷ runAt28 es (x .system) .answers; system = runAt28 es (x .system) .system })
+      (sym (entry-same _ _ _ _ _ σ ω e s (agrees (s .world .core) f)))
+
+  -- ---- histories
+
+  abbrev historyAt28 : List (Entry σ C) → Past M → History M
+  historyAt28 es p = historyBy validCoreAt28 clockAt28 σ ω es p
+
+  abbrev HistoriesAlike : List (Entry σ C) → Past M → Type 0
+  HistoriesAlike es p = NotedButSpeed es (history σ ω es p) (historyAt28 (others es) p)
+
+  other-histories : (e : Entry σ C) (es : List (Entry σ C)) (p : Past M) → isSpeedCall e ≡ false → At3 (p .world .core) → HistoriesAlike es (noteEntry σ ω e p .past) → HistoriesAlike (e ∷ es) p
+  unfolding historyBy
+  other-histories e es p n f r =
+      let a = note-same _ _ _ _ _ σ ω e p (agrees (p .world .core) f) in
+      rw (other-stays e es n)
+      (record {
+        past = r .past ∙ ap (λ (x : EntryNoted M). historyAt28 (others es) (x .past) .past) (sym a);
+        numbers =
+            answer-stays e es _ _ n
+            ∙ ap (λ l. noteEntry σ ω e p .number ∷ l) (r .numbers)
+            ∙ ap (λ (x : EntryNoted M). x .number ∷ historyAt28 (others es) (x .past) .numbers) (sym a);
+      })
+
+  speed-histories : (code : ℕ) (es : List (Entry σ C)) (p : Past M) → noteEntry σ ω (speedCall code) p .past ≡ p → HistoriesAlike es p → HistoriesAlike (speedCall code ∷ es) p
+  unfolding historyBy others toOthers pick
+  speed-histories code es p e r =
+      record {
+        past = ap (λ (q : Past M). history σ ω es q .past) e ∙ r .past;
+        numbers = ap (λ (q : Past M). toOthers es (history σ ω es q .numbers)) e ∙ r .numbers;
+      }
+
+  first-noted : (e : Entry σ C) (es : List (Entry σ C)) (p : Past M) → OnlyThree (e ∷ es) (history σ ω (e ∷ es) p .numbers) → (noteEntry σ ω e p .number ≡ 0 → AsksThree e) × OnlyThree es (history σ ω es (noteEntry σ ω e p .past) .numbers)
+  unfolding historyBy OnlyThree
+  first-noted e es p o = o
+
+  noted-stays : (code : ℕ) (p : Past M) → p .world .core .control .speed ≡ 3 → (noteEntry σ ω (speedCall code) p .number ≡ 0 → code ≡ 3) → noteEntry σ ω (speedCall code) p .past ≡ p
+  unfolding notedUnless
+  noted-stays code p e h =
+      pick-cases (λ (q : Past M). q ≡ p) _ _ _
+      (λ z. ap (λ (c : Core). withCore c p) (same-speed (p .world .core) code e (h (eqb-true _ _ z))))
+      (λ z. refl)
+
+  note-at3 : (e : Entry σ C) (p : Past M) → isSpeedCall e ≡ false → At3 (p .world .core) → At3 (noteEntry σ ω e p .past .world .core)
+  unfolding notedUnless writePassed
+  note-at3 (portWrite port byte) p n f =
+      pick-cases (λ (q : Past M). At3 (q .world .core)) _ _ _
+      (λ e.
+      let a = access-framed (p .world .core) (p .sum) port f (eqb-true _ _ e) in
+      let w = short-at3 _ (written-framed 3 Short rest-short port byte (p .world .core) a) in
+      pick-both (λ (q : Past M). At3 (q .world .core)) _ _ _ w w)
+      (λ e. f)
+  note-at3 (portRead port) p n f =
+      pick-cases (λ (q : Past M). At3 (q .world .core)) _ _ _
+      (λ e.
+      let a = access-framed (p .world .core) (p .sum) port f (eqb-true _ _ e) in
+      short-at3 _ (read-framed 3 Short rest-short (p .world .core) a))
+      (λ e. f)
+  note-at3 (speedCall code) p n f = clash (sym n)
+  note-at3 (clockGrant n) p m f = passed-at3 σ (p .world .buffers) n p f
+  note-at3 (otherGrant n b wrong) p m f = passed-at3 σ b n p f
+  note-at3 (outsideChange x) p n f = f
+
+  histories-alike : (es : List (Entry σ C)) (p : Past M) → At3 (p .world .core) → OnlyThree es (history σ ω es p .numbers) → HistoriesAlike es p
+  unfolding historyBy others toOthers
+  histories-alike [] p f o = record { past = refl; numbers = refl }
+  histories-alike (x ∷ es) p f o =
+      by-kind (λ (e : Entry σ C). OnlyThree (e ∷ es) (history σ ω (e ∷ es) p .numbers) → HistoriesAlike (e ∷ es) p)
+      (λ code o.
+      let h = first-noted (speedCall code) es p o in
+      let e = noted-stays code p (f .0) (h .0) in
+      speed-histories code es p e (histories-alike es p f (subst (λ (q : Past M). OnlyThree es (history σ ω es q .numbers)) e (h .1))))
+      (λ e n o. other-histories e es p n f (histories-alike es _ (note-at3 e p n f) (first-noted e es p o .1)))
+      x o
+
+  plain-histories : (es : List (Entry σ C)) (p : Past M) → At3 (p .world .core) → NoSpeedCall es → history σ ω es p ≡ historyAt28 es p
+  unfolding historyBy NoSpeedCall
+  plain-histories [] p f n = refl
+  plain-histories (e ∷ es) p f n =
+      ap (λ (h : History M). record { numbers = noteEntry σ ω e p .number ∷ h .numbers; past = h .past })
+      (plain-histories es _ (note-at3 e p (n .0) f) (n .1))
+      ∙ ap (λ (x : EntryNoted M). record { numbers = x .number ∷ historyAt28 es (x .past) .numbers; past = historyAt28 es (x .past) .past })
+      (sym (note-same _ _ _ _ _ σ ω e p (agrees (p .world .core) f)))
+
+-- ---- the claim
+
+pub full-speed-stands : FullSpeedStands
+unfolding opened allowedAt28
+full-speed-stands =
+    record {
+      powerOn = record { speed = refl; slot = λ v. refl };
+      validity = valid-at28;
+      slot = λ c e v. sym (new-alike c (valid-timed c e v));
+      clock = λ c e v. sym (clock-alike c (valid-timed c e v));
+      write = λ c k port byte u. sym (write-same _ _ _ _ _ c k port byte (agrees c (unslowed-at3 c u)));
+      read = λ c k port u. sym (read-same _ _ _ _ _ c k port (agrees c (unslowed-at3 c u)));
+      granted = λ σ s n u. sym (grant-same _ _ _ _ _ σ s n (agrees (s .world .core) (unslowed-at3 (s .world .core) u)));
+      plainRun = λ σ ω es s u n. plain-runs σ ω es s (unslowed-at3 (s .world .core) u) n;
+      plainHistory = λ σ ω es p u n. plain-histories σ ω es p (unslowed-at3 (p .world .core) u) n;
+      runs = λ σ ω es s u o. runs-alike σ ω es s (unslowed-at3 (s .world .core) u) o;
+      histories = λ σ ω es p u o. histories-alike σ ω es p (unslowed-at3 (p .world .core) u) o;
+    }
