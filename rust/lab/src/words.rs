@@ -190,7 +190,8 @@ fn continuous_or_burst(core: &Core) -> &'static str {
     }
 }
 
-/// A session cannot set the speed: at 28 MHz no bus time is as long as this.
+/// In words. Its time is the length of a slot: a session runs at 28 MHz, where no
+/// bus time is longer.
 fn prescaler(core: &Core) -> String {
     match core.control.prescaler {
         0 => "off".to_string(),
