@@ -29,6 +29,7 @@ pub mod Splitting
 pub mod Accounts
 pub mod SplittingLists
 pub mod Reached
+pub mod Along
 pub mod Alike
 pub mod Recheck
 pub mod Slowing

@@ -21,12 +21,13 @@ use Rattle.rules.specs.Facts.{ValidParts}
 use Rattle.rules.specs.Commands.{enable, readingCommand, command}
 use Rattle.rules.specs.Registers.{wr3, register, parameter, carriedOut, inMode, written, effectOver, carriedOutAs}
 use Rattle.rules.specs.Readback.{Byte, readByte}
+use Rattle.rules.specs.Steering.{bits}
 use Rattle.rules.specs.Clock.{cpuClock, Clock, clock, stopped, movedAt, Ending, slotEnd, clockEnd, slotClock, begun, clockOf}
 use Rattle.rules.specs.Buffers.{Store}
 use Rattle.rules.specs.World.{System, clocked}
-use Rattle.rules.specs.Calls.{Answered, Answer, grant, Reply, unlessRefused, writeReply, readReply, speedReply, readReplyOver, speedReplyOver, grantOver, writeReplyOver}
-use Rattle.rules.specs.Entries.{Outside, Entry, portWrite, portRead, speedCall, clockGrant, otherGrant, outsideChange, besideBuffers, Run, enterBy, enter, runBy, run, systemAtPowerOn, runOver}
-use Rattle.rules.specs.History.{Past, EntryNoted, History, noteEntryBy, noteEntry, historyBy, history}
+use Rattle.rules.specs.Calls.{Answer, grant, Reply, unlessRefused, writeReply, readReply, speedReply, readReplyOver, speedReplyOver, grantOver, writeReplyOver}
+use Rattle.rules.specs.Entries.{Outside, Entry, portWrite, portRead, speedCall, clockGrant, otherGrant, outsideChange, besideBuffers, enter, runBy, run, systemAtPowerOn, runOver}
+use Rattle.rules.specs.History.{Past, historyBy, history}
 use Rattle.rules.specs.Recheck.{firstClockWithRecheck, clockWithRecheck, recheckHits, RecheckNeverHits, inWait, RecheckNearest, RecheckUnseen}
 use Rattle.rules.specs.Opened.{opened}
 use Rattle.rules.specs.declared.Clocks.{Clocks}
@@ -38,6 +39,7 @@ use Rattle.rules.proofs.Slots.{unmoved-first, free-settled}
 use Rattle.rules.proofs.Stretches.{clock-first, clock-later}
 use Rattle.rules.proofs.World.{clocked-zero, clocked-suc}
 use Rattle.rules.proofs.Calls.{access, invalid-access, invalid-speed, invalid-lent, valid-parts}
+use Rattle.rules.proofs.Along.{runs-agree, histories-agree}
 use Rattle.rules.proofs.Alike.{Agrees, grant-same, entry-same, note-same}
 
 -- ---- where it does not hit
@@ -261,36 +263,15 @@ agrees : (c : Core) → Agrees validCore clockWithRecheck Unhit clocks-same (λ 
 agrees c = record { tests = refl; clocks = valid-unhit c }
 
 module _ {M C : Type 0} (σ : Store M) (ω : Outside M C) where
-  entry-alike : (e : Entry σ C) (s : System M) → enterBy clockWithRecheck σ ω e s ≡ enter σ ω e s
-  entry-alike e s = entry-same _ _ _ _ _ σ ω e s (agrees (s .world .core))
-
-  -- the run of a list by its first answer
-  abbrev behind : Answered → Run M → Run M
-  behind a r = record { answers = a ∷ r .answers; system = r .system }
-
   runs-same : (es : List (Entry σ C)) (s : System M) → runBy clockWithRecheck σ ω es s ≡ run σ ω es s
-  unfolding runOver
-  runs-same [] s = refl
-  runs-same (e ∷ es) s =
-      ap (λ (a : Answer M). behind (a .answered) (runBy clockWithRecheck σ ω es (a .system))) (entry-alike e s)
-      ∙ ap (behind (enter σ ω e s .answered)) (runs-same es (enter σ ω e s .system))
-
--- ---- histories
-
-module _ {M C : Type 0} (σ : Store M) (ω : Outside M C) where
-  note-alike : (e : Entry σ C) (p : Past M) → noteEntryBy validCore clockWithRecheck σ ω e p ≡ noteEntry σ ω e p
-  note-alike e p = note-same _ _ _ _ _ σ ω e p (agrees (p .world .core))
-
-  -- the history of a list by its first number
-  abbrev after : ℕ → History M → History M
-  after n h = record { numbers = n ∷ h .numbers; past = h .past }
+  runs-same es s =
+      runs-agree σ ω (λ es. Unit {0}) bits bits clockOf clockWithRecheck (λ s. Unit {0})
+      (λ e es s q p. (entry-same _ _ _ _ _ σ ω e s (agrees (s .world .core)), tt, tt)) es s tt tt
 
   histories-same : (es : List (Entry σ C)) (p : Past M) → historyBy validCore clockWithRecheck σ ω es p ≡ history σ ω es p
-  unfolding historyBy
-  histories-same [] p = refl
-  histories-same (e ∷ es) p =
-      ap (λ (x : EntryNoted M). after (x .number) (historyBy validCore clockWithRecheck σ ω es (x .past))) (note-alike e p)
-      ∙ ap (after (noteEntry σ ω e p .number)) (histories-same es (noteEntry σ ω e p .past))
+  histories-same es p =
+      histories-agree σ ω (λ es. Unit {0}) validCore validCore clockOf clockWithRecheck (λ p. Unit {0})
+      (λ e es p q u. (note-same _ _ _ _ _ σ ω e p (agrees (p .world .core)), tt, tt)) es p tt tt
 
 -- ---- the claims
 

@@ -3,7 +3,7 @@
 -- Assumes nothing.
 use Prim.Native.Nat.{ℕ, _+_, _*_, _≤_}
 use native.Mathlib.Omega.{arith}
-use mathlib.Core.Path.{_≡_, refl, sym, _∙_, ap, subst}
+use mathlib.Core.Path.{_≡_, refl, sym, _∙_, ap}
 use mathlib.Core.Bool.{Bool, true, false}
 use mathlib.Core.List.{List, [], _∷_}
 use lib.Dec.{leb, ltb, eqb}
@@ -14,16 +14,16 @@ use Rattle.rules.specs.Speed.{atSpeed}
 use Rattle.rules.specs.Slots.{noSlot, busTimeOf, larger, slotLength, newSlot, slotOf}
 use Rattle.rules.specs.PowerOn.{powerOn}
 use Rattle.rules.specs.Validity.{prescaledLength, validLength, runningSlot, validSlot, validCore, validCoreIf, total}
+use Rattle.rules.specs.Steering.{bits}
 use Rattle.rules.specs.Clock.{slotClock, clockOf}
 use Rattle.rules.specs.Buffers.{Store, Buffers}
 use Rattle.rules.specs.World.{System, system}
 use Rattle.rules.specs.Refusals.{accessRefusal}
-use Rattle.rules.specs.Calls.{Reply, Answer, unlessRefused, beside, writeReply, readReply, grant, writeReplyOver, readReplyOver, speedReplyOver, grantOver}
-use Rattle.rules.specs.Entries.{Outside, Entry, portWrite, portRead, speedCall, clockGrant, otherGrant, outsideChange, besideBuffers, enter, Run, runOver, run}
-use Rattle.rules.specs.History.{Past, EntryNoted, History, withCore, writePassed, notedUnless, grantNotedBy, noteEntry, historyBy, history}
-use Rattle.rules.specs.Accounts.{numbersOf}
+use Rattle.rules.specs.Calls.{Reply, Answer, Answered, unlessRefused, beside, writeReply, readReply, grant, writeReplyOver, readReplyOver, speedReplyOver, grantOver}
+use Rattle.rules.specs.Entries.{Outside, Entry, portWrite, portRead, speedCall, clockGrant, otherGrant, outsideChange, besideBuffers, enterOver, enter, runOver, run}
+use Rattle.rules.specs.History.{Past, EntryNoted, withCore, writePassed, notedUnless, grantNotedBy, noteEntryBy, noteEntry, historyBy, history}
 use Rattle.rules.specs.At28.{slotLengthAt28, newSlotAt28, slotOfAt28, clockAt28, validLengthAt28, runningSlotAt28, validSlotAt28, validCoreAt28, at28}
-use Rattle.rules.specs.Unslowed.{allowedAt28, Unslowed, isSpeedCall, others, toOthers, AsksThree, NoSpeedCall, OnlyThree, SameButSpeed, NotedButSpeed, FullSpeedStands}
+use Rattle.rules.specs.Unslowed.{allowedAt28, Unslowed, isSpeedCall, others, NoSpeedCall, OnlyThree, SameButSpeed, FullSpeedStands}
 use Rattle.rules.specs.Opened.{opened}
 use Rattle.rules.specs.declared.Slot.{Slot}
 use Rattle.rules.specs.declared.Clocks.{Clocks}
@@ -34,6 +34,7 @@ use Rattle.rules.proofs.Validity.{core-parts, port-cycle, prescaled-fac
 use Rattle.rules.proofs.Calls.{access, granted, valid-core}
 use Rattle.rules.proofs.World.{clocked-keeps}
 use Rattle.rules.proofs.Framing.{written-framed, read-framed, clock-timed}
+use Rattle.rules.proofs.Along.{enters, notes, run-along, history-along, runs-agree, histories-agree, along-others}
 use Rattle.rules.proofs.Alike.{Agrees, write-same, read-same, grant-same, entry-same, note-same, passed-keeps}
 
 -- ---- a running slot with a bus time of at most 8
@@ -236,15 +237,6 @@ same-speed : (c : Core) (code : ℕ) → c .control .speed ≡ 3 → code ≡ 3 
 same-speed c code e d = ap (λ (n : ℕ). atSpeed n c) (d ∙ sym e)
 
 module _ {M C : Type 0} (σ : Store M) (ω : Outside M C) where
-  -- a speed call, or another entry
-  by-kind : (P : Entry σ C → Type 0) → ((code : ℕ) → P (speedCall code)) → ((e : Entry σ C) → isSpeedCall e ≡ false → P e) → (e : Entry σ C) → P e
-  by-kind P f g (portWrite port byte) = g (portWrite port byte) refl
-  by-kind P f g (portRead port) = g (portRead port) refl
-  by-kind P f g (speedCall code) = f code
-  by-kind P f g (clockGrant n) = g (clockGrant n) refl
-  by-kind P f g (otherGrant n b wrong) = g (otherGrant n b wrong) refl
-  by-kind P f g (outsideChange x) = g (outsideChange x) refl
-
   entry-at3 : (e : Entry σ C) (s : System M) → isSpeedCall e ≡ false → At3 (s .world .core) → At3 (enter σ ω e s .system .world .core)
   entry-at3 (portWrite port byte) s n f = write-at3 (s .world .core) (s .clocks) port byte f
   entry-at3 (portRead port) s n f = read-at3 (s .world .core) (s .clocks) port f
@@ -261,106 +253,6 @@ module _ {M C : Type 0} (σ : Store M) (ω : Outside M C) where
       _ _ _
       (λ z h. ap (λ (c : Core). system c (s .world .buffers) (s .clocks)) (same-speed (s .world .core) code e (h refl)))
       (λ z h. refl)
-
-  -- ---- lists
-
-  -- an entry that is no speed call stays in the list, and so does its answer
-  other-stays : (e : Entry σ C) (es : List (Entry σ C)) → isSpeedCall e ≡ false → others (e ∷ es) ≡ e ∷ others es
-  unfolding others
-  other-stays e es n = pick-false _ _ _ n
-
-  answer-stays : {X : Type 0} (e : Entry σ C) (es : List (Entry σ C)) (a : X) (as′ : List X) → isSpeedCall e ≡ false → toOthers (e ∷ es) (a ∷ as′) ≡ a ∷ toOthers es as′
-  unfolding toOthers
-  answer-stays e es a as′ n = pick-false _ _ _ n
-
-  -- a run, and one at 28 MHz of another list
-  abbrev runAt28 : List (Entry σ C) → System M → Run M
-  runAt28 es s = runOver at28 clockAt28 σ ω es s
-
-  abbrev RunsAlike : List (Entry σ C) → System M → Type 0
-  RunsAlike es s = SameButSpeed es (run σ ω es s) (runAt28 (others es) s)
-
-  other-runs : (e : Entry σ C) (es : List (Entry σ C)) (s : System M) → isSpeedCall e ≡ false → At3 (s .world .core) → RunsAlike es (enter σ ω e s .system) → RunsAlike (e ∷ es) s
-  unfolding runOver
-  other-runs e es s n f r =
-      let a = entry-same _ _ _ _ _ σ ω e s (agrees (s .world .core) f) in
-      rw (other-stays e es n)
-      (record {
-        system = r .system ∙ ap (λ (x : Answer M). runAt28 (others es) (x .system) .system) (sym a);
-        answers =
-            answer-stays e es _ _ n
-            ∙ ap (λ l. enter σ ω e s .answered ∷ l) (r .answers)
-            ∙ ap (λ (x : Answer M). x .answered ∷ runAt28 (others es) (x .system) .answers) (sym a);
-      })
-
-  speed-runs : (code : ℕ) (es : List (Entry σ C)) (s : System M) → enter σ ω (speedCall code) s .system ≡ s → RunsAlike es s → RunsAlike (speedCall code ∷ es) s
-  unfolding runOver others toOthers pick
-  speed-runs code es s e r =
-      record {
-        system = ap (λ (t : System M). run σ ω es t .system) e ∙ r .system;
-        answers = ap (λ (t : System M). toOthers es (run σ ω es t .answers)) e ∙ r .answers;
-      }
-
-  abbrev Only3 : List (Entry σ C) → System M → Type 0
-  Only3 es s = OnlyThree es (numbersOf (run σ ω es s .answers))
-
-  first-only : (e : Entry σ C) (es : List (Entry σ C)) (s : System M) → Only3 (e ∷ es) s → (enter σ ω e s .answered .number ≡ 0 → AsksThree e) × Only3 es (enter σ ω e s .system)
-  unfolding runOver OnlyThree numbersOf
-  first-only e es s o = o
-
-  runs-alike : (es : List (Entry σ C)) (s : System M) → At3 (s .world .core) → Only3 es s → RunsAlike es s
-  unfolding runOver others toOthers
-  runs-alike [] s f o = record { system = refl; answers = refl }
-  runs-alike (x ∷ es) s f o =
-      by-kind (λ (e : Entry σ C). Only3 (e ∷ es) s → RunsAlike (e ∷ es) s)
-      (λ code o.
-      let h = first-only (speedCall code) es s o in
-      let e = speed-stays code s (f .0) (h .0) in
-      speed-runs code es s e (runs-alike es s f (subst (Only3 es) e (h .1))))
-      (λ e n o. other-runs e es s n f (runs-alike es _ (entry-at3 e s n f) (first-only e es s o .1)))
-      x o
-
-  plain-runs : (es : List (Entry σ C)) (s : System M) → At3 (s .world .core) → NoSpeedCall es → run σ ω es s ≡ runAt28 es s
-  unfolding runOver NoSpeedCall
-  plain-runs [] s f n = refl
-  plain-runs (e ∷ es) s f n =
-      ap (λ (r : Run M). record { answers = enter σ ω e s .answered ∷ r .answers; system = r .system })
-      (plain-runs es _ (entry-at3 e s (n .0) f) (n .1))
-      ∙ ap (λ (x : Answer M). record { answers = x .answered ∷ runAt28 es (x .system) .answers; system = runAt28 es (x .system) .system })
-      (sym (entry-same _ _ _ _ _ σ ω e s (agrees (s .world .core) f)))
-
-  -- ---- histories
-
-  abbrev historyAt28 : List (Entry σ C) → Past M → History M
-  historyAt28 es p = historyBy validCoreAt28 clockAt28 σ ω es p
-
-  abbrev HistoriesAlike : List (Entry σ C) → Past M → Type 0
-  HistoriesAlike es p = NotedButSpeed es (history σ ω es p) (historyAt28 (others es) p)
-
-  other-histories : (e : Entry σ C) (es : List (Entry σ C)) (p : Past M) → isSpeedCall e ≡ false → At3 (p .world .core) → HistoriesAlike es (noteEntry σ ω e p .past) → HistoriesAlike (e ∷ es) p
-  unfolding historyBy
-  other-histories e es p n f r =
-      let a = note-same _ _ _ _ _ σ ω e p (agrees (p .world .core) f) in
-      rw (other-stays e es n)
-      (record {
-        past = r .past ∙ ap (λ (x : EntryNoted M). historyAt28 (others es) (x .past) .past) (sym a);
-        numbers =
-            answer-stays e es _ _ n
-            ∙ ap (λ l. noteEntry σ ω e p .number ∷ l) (r .numbers)
-            ∙ ap (λ (x : EntryNoted M). x .number ∷ historyAt28 (others es) (x .past) .numbers) (sym a);
-      })
-
-  speed-histories : (code : ℕ) (es : List (Entry σ C)) (p : Past M) → noteEntry σ ω (speedCall code) p .past ≡ p → HistoriesAlike es p → HistoriesAlike (speedCall code ∷ es) p
-  unfolding historyBy others toOthers pick
-  speed-histories code es p e r =
-      record {
-        past = ap (λ (q : Past M). history σ ω es q .past) e ∙ r .past;
-        numbers = ap (λ (q : Past M). toOthers es (history σ ω es q .numbers)) e ∙ r .numbers;
-      }
-
-  first-noted : (e : Entry σ C) (es : List (Entry σ C)) (p : Past M) → OnlyThree (e ∷ es) (history σ ω (e ∷ es) p .numbers) → (noteEntry σ ω e p .number ≡ 0 → AsksThree e) × OnlyThree es (history σ ω es (noteEntry σ ω e p .past) .numbers)
-  unfolding historyBy OnlyThree
-  first-noted e es p o = o
 
   noted-stays : (code : ℕ) (p : Past M) → p .world .core .control .speed ≡ 3 → (noteEntry σ ω (speedCall code) p .number ≡ 0 → code ≡ 3) → noteEntry σ ω (speedCall code) p .past ≡ p
   unfolding notedUnless
@@ -389,26 +281,52 @@ module _ {M C : Type 0} (σ : Store M) (ω : Outside M C) where
   note-at3 (otherGrant n b wrong) p m f = passed-at3 σ b n p f
   note-at3 (outsideChange x) p n f = f
 
-  histories-alike : (es : List (Entry σ C)) (p : Past M) → At3 (p .world .core) → OnlyThree es (history σ ω es p .numbers) → HistoriesAlike es p
-  unfolding historyBy others toOthers
-  histories-alike [] p f o = record { past = refl; numbers = refl }
-  histories-alike (x ∷ es) p f o =
-      by-kind (λ (e : Entry σ C). OnlyThree (e ∷ es) (history σ ω (e ∷ es) p .numbers) → HistoriesAlike (e ∷ es) p)
-      (λ code o.
-      let h = first-noted (speedCall code) es p o in
-      let e = noted-stays code p (f .0) (h .0) in
-      speed-histories code es p e (histories-alike es p f (subst (λ (q : Past M). OnlyThree es (history σ ω es q .numbers)) e (h .1))))
-      (λ e n o. other-histories e es p n f (histories-alike es _ (note-at3 e p n f) (first-noted e es p o .1)))
-      x o
+  -- ---- lists, by the steps of runs and histories
 
-  plain-histories : (es : List (Entry σ C)) (p : Past M) → At3 (p .world .core) → NoSpeedCall es → history σ ω es p ≡ historyAt28 es p
-  unfolding historyBy NoSpeedCall
-  plain-histories [] p f n = refl
-  plain-histories (e ∷ es) p f n =
-      ap (λ (h : History M). record { numbers = noteEntry σ ω e p .number ∷ h .numbers; past = h .past })
-      (plain-histories es _ (note-at3 e p (n .0) f) (n .1))
-      ∙ ap (λ (x : EntryNoted M). record { numbers = x .number ∷ historyAt28 es (x .past) .numbers; past = historyAt28 es (x .past) .past })
-      (sym (note-same _ _ _ _ _ σ ω e p (agrees (p .world .core) f)))
+  run-step : (e : Entry σ C) (s : System M) → isSpeedCall e ≡ false → At3 (s .world .core) → (enterOver at28 clockAt28 σ ω e s ≡ enter σ ω e s) × At3 (enter σ ω e s .system .world .core)
+  run-step e s n f = (entry-same _ _ _ _ _ σ ω e s (agrees (s .world .core) f), entry-at3 e s n f)
+
+  note-step : (e : Entry σ C) (p : Past M) → isSpeedCall e ≡ false → At3 (p .world .core) → (noteEntryBy validCoreAt28 clockAt28 σ ω e p ≡ noteEntry σ ω e p) × At3 (noteEntry σ ω e p .past .world .core)
+  note-step e p n f = (note-same _ _ _ _ _ σ ω e p (agrees (p .world .core) f), note-at3 e p n f)
+
+  -- of a list without speed calls
+  first-plain : (e : Entry σ C) (es : List (Entry σ C)) → NoSpeedCall (e ∷ es) → (isSpeedCall e ≡ false) × NoSpeedCall es
+  unfolding NoSpeedCall
+  first-plain e es n = n
+
+  plain-runs : (es : List (Entry σ C)) (s : System M) → At3 (s .world .core) → NoSpeedCall es → run σ ω es s ≡ runOver at28 clockAt28 σ ω es s
+  plain-runs es s f n =
+      sym
+      (runs-agree σ ω NoSpeedCall bits at28 clockOf clockAt28 (λ (t : System M). At3 (t .world .core))
+      (λ e es t q p. let h = first-plain e es q in let r = run-step e t (h .0) p in (r .0, r .1, h .1)) es s n f)
+
+  plain-histories : (es : List (Entry σ C)) (p : Past M) → At3 (p .world .core) → NoSpeedCall es → history σ ω es p ≡ historyBy validCoreAt28 clockAt28 σ ω es p
+  plain-histories es p f n =
+      sym
+      (histories-agree σ ω NoSpeedCall validCore validCoreAt28 clockOf clockAt28 (λ (q : Past M). At3 (q .world .core))
+      (λ e es q n f. let h = first-plain e es n in let r = note-step e q (h .0) f in (r .0, r .1, h .1)) es p n f)
+
+  runs-alike :
+      (es : List (Entry σ C)) (s : System M) → At3 (s .world .core) → OnlyThree (λ a. a .number) es (run σ ω es s .answers)
+      → SameButSpeed es (run σ ω es s .answers) (run σ ω es s .system) (runOver at28 clockAt28 σ ω (others es) s .answers) (runOver at28 clockAt28 σ ω (others es) s .system)
+  runs-alike es s f o =
+      rw (run-along σ ω bits clockOf es s)
+      (rw (run-along σ ω at28 clockAt28 (others es) s)
+      (along-others (enters σ ω bits clockOf) (enters σ ω at28 clockAt28) (λ (a : Answered). a .number) (λ (t : System M). At3 (t .world .core))
+      (λ e t n f. let r = run-step e t n f in (ap (λ (a : Answer M). (a .answered, a .system)) (r .0), r .1))
+      (λ code t f h. speed-stays code t (f .0) h)
+      es s f (rw (run-along σ ω bits clockOf es s) at o)))
+
+  histories-alike :
+      (es : List (Entry σ C)) (p : Past M) → At3 (p .world .core) → OnlyThree (λ n. n) es (history σ ω es p .numbers)
+      → SameButSpeed es (history σ ω es p .numbers) (history σ ω es p .past) (historyBy validCoreAt28 clockAt28 σ ω (others es) p .numbers) (historyBy validCoreAt28 clockAt28 σ ω (others es) p .past)
+  histories-alike es p f o =
+      rw (history-along σ ω validCore clockOf es p)
+      (rw (history-along σ ω validCoreAt28 clockAt28 (others es) p)
+      (along-others (notes σ ω validCore clockOf) (notes σ ω validCoreAt28 clockAt28) (λ (n : ℕ). n) (λ (q : Past M). At3 (q .world .core))
+      (λ e q n f. let r = note-step e q n f in (ap (λ (x : EntryNoted M). (x .number, x .past)) (r .0), r .1))
+      (λ code q f h. noted-stays code q (f .0) h)
+      es p f (rw (history-along σ ω validCore clockOf es p) at o)))
 
 -- ---- the claim
 

@@ -12,7 +12,8 @@ abbrev pub configured : ℕ → Port → Port
 configured byte p =
     record { address = p .address; pointer = p .pointer; io = bit 3 byte; step = byte / 16 % 4; cycle = p .cycle }
 
--- bits 1-0 of a timing byte: 00 is 4 clocks, 01 is 3, 10 is 2; 11 is 4 (ours). The other bits say nothing of the cycle.
+-- bits 1-0 of a timing byte: 00 is 4 clocks at 28 MHz, 01 is 3, 10 is 2; 11 is 4 (ours). The other bits say nothing of the
+-- cycle.
 unfoldable pub cycleOf : ℕ → ℕ
 cycleOf byte = pick (eqb (byte % 4) 1) 3 (pick (eqb (byte % 4) 2) 2 4)
 
@@ -26,7 +27,7 @@ addressedLow byte p = withAddress (withLow byte (p .address)) p
 abbrev pub addressedHigh : ℕ → Port → Port
 addressedHigh byte p = withAddress (withHigh byte (p .address)) p
 
--- the cycle length after a reset: 4 clocks
+-- the cycle length after a reset: 4 clocks at 28 MHz
 abbrev pub resetTiming : Port → Port
 resetTiming p = withCycle 4 p
 

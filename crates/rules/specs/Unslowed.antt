@@ -15,7 +15,6 @@ use Rattle.rules.specs.World.{System}
 use Rattle.rules.specs.Calls.{writeReplyOver, writeReply, readReplyOver, readReply, grantOver, grant}
 use Rattle.rules.specs.Entries.{Outside, Entry, portWrite, portRead, speedCall, clockGrant, otherGrant, outsideChange, Run, runOver, run}
 use Rattle.rules.specs.History.{Past, History, historyBy, history}
-use Rattle.rules.specs.Accounts.{numbersOf}
 use Rattle.rules.specs.At28.{newSlotAt28, clockAt28, runningSlotAt28, validCoreAt28, at28}
 use Rattle.rules.specs.declared.Slot.{Slot}
 use Rattle.rules.specs.declared.Clocks.{Clocks}
@@ -66,20 +65,16 @@ NoSpeedCall [] = Unit {0}
 NoSpeedCall (e ∷ es) = (isSpeedCall e ≡ false) × NoSpeedCall es
 
 -- the speed calls that were accepted, by the numbers of the answers, are all of code 3
-unfoldable pub OnlyThree : {M C : Type 0} {σ : Store M} → List (Entry σ C) → List ℕ → Type 0
-OnlyThree [] ns = Unit {0}
-OnlyThree (e ∷ es) [] = Unit {0}
-OnlyThree (e ∷ es) (n ∷ ns) = (n ≡ 0 → AsksThree e) × OnlyThree es ns
+unfoldable pub OnlyThree : {M C A : Type 0} {σ : Store M} → (A → ℕ) → List (Entry σ C) → List A → Type 0
+OnlyThree number [] as′ = Unit {0}
+OnlyThree number (e ∷ es) [] = Unit {0}
+OnlyThree number (e ∷ es) (a ∷ as′) = (number a ≡ 0 → AsksThree e) × OnlyThree number es as′
 
--- the run of a list, and one of its entries that are no speed calls: the same system, and the same answers to them
-pub record SameButSpeed {M C : Type 0} {σ : Store M} (es : List (Entry σ C)) (new old : Run M) : Type 0 where
-  pub system : new .system ≡ old .system
-  pub answers : toOthers es (new .answers) ≡ old .answers
-
--- the same of histories
-pub record NotedButSpeed {M C : Type 0} {σ : Store M} (es : List (Entry σ C)) (new old : History M) : Type 0 where
-  pub past : new .past ≡ old .past
-  pub numbers : toOthers es (new .numbers) ≡ old .numbers
+-- what a list's entries were answered and the state after them, beside those of its entries that are no speed calls: the same
+-- state, and the same answers to these
+pub record SameButSpeed {M C A X : Type 0} {σ : Store M} (es : List (Entry σ C)) (as′ : List A) (x : X) (bs : List A) (y : X) : Type 0 where
+  pub state : x ≡ y
+  pub answers : toOthers es as′ ≡ bs
 
 -- ---- the claim
 
@@ -106,10 +101,12 @@ pub record FullSpeedStands : Type 1 where
   pub runs :
       {M C : Type 0} (σ : Store M) (ω : Outside M C) (es : List (Entry σ C)) (s : System M)
       → Unslowed (s .world .core)
-      → OnlyThree es (numbersOf (run σ ω es s .answers))
-      → SameButSpeed es (run σ ω es s) (runOver at28 clockAt28 σ ω (others es) s)
+      → OnlyThree (λ a. a .number) es (run σ ω es s .answers)
+      → (let old : Run M = runOver at28 clockAt28 σ ω (others es) s in
+      SameButSpeed es (run σ ω es s .answers) (run σ ω es s .system) (old .answers) (old .system))
   pub histories :
       {M C : Type 0} (σ : Store M) (ω : Outside M C) (es : List (Entry σ C)) (p : Past M)
       → Unslowed (p .world .core)
-      → OnlyThree es (history σ ω es p .numbers)
-      → NotedButSpeed es (history σ ω es p) (historyBy validCoreAt28 clockAt28 σ ω (others es) p)
+      → OnlyThree (λ n. n) es (history σ ω es p .numbers)
+      → (let old : History M = historyBy validCoreAt28 clockAt28 σ ω (others es) p in
+      SameButSpeed es (history σ ω es p .numbers) (history σ ω es p .past) (old .numbers) (old .past))
