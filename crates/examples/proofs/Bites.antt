@@ -16,8 +16,8 @@ use Rattle.rules.specs.Validity.{valid, total}
 use Rattle.rules.specs.World.{System, Move}
 use Rattle.rules.specs.Calls.{read}
 use Rattle.rules.proofs.Choice.{clash, either, pick-true, pick-false, all-true, every-stop, every-stop-later, every-at}
-use Rattle.examples.specs.Rows.{Action, fill, latch, send, sendRefused, expect, expectRefused, speed, speedRefused, clocks, borrow, counts, memory, latches, pointers, counter, status, enabled, count, suppose, supposeCore, supposeCounts, clocksRefused, figure, changed, nextMove, Row, Seen, same, answered, sendAll, expectAll, movesSo, perform, played, Failure, rowFailures, start, failures}
-use Rattle.examples.specs.Bites.{Other, OneOther, here, later, sendAccepted, speedAccepted, clocksAccepted, sendRefusedNumber, expectByte, expectRefusedNumber, speedRefusedNumber, borrowNumber, countsBus, countsHeld, countsCpu, memoryByte, latchesByte, pointersA, pointersB, counterHolds, statusByte, enabledOr, countIs, clocksRefusedNumber, figureIs, changedValid, moveFrom, moveFromIo, moveTo, moveToIo, moveByte, Bites, TableBites, anyOf, expects, someExpects, allExpect, EveryRowExpects, ExpectsChangeable}
+use Rattle.examples.specs.Rows.{Action, fill, latch, send, sendAnswered, expect, expectRefused, speed, speedRefused, clocks, borrow, counts, memory, latches, pointers, counter, status, enabled, count, suppose, supposeCore, supposeCounts, clocksRefused, figure, changed, nextMove, Row, Seen, same, answered, sendAll, expectAll, movesSo, perform, played, Failure, rowFailures, start, failures}
+use Rattle.examples.specs.Bites.{Other, OneOther, here, later, sendAccepted, sendUnwarned, sendNumber, sendWarning, speedAccepted, clocksAccepted, expectByte, expectRefusedNumber, speedRefusedNumber, borrowNumber, countsBus, countsHeld, countsCpu, memoryByte, latchesByte, pointersA, pointersB, counterHolds, statusByte, enabledOr, countIs, clocksRefusedNumber, figureIs, changedValid, moveFrom, moveFromIo, moveTo, moveToIo, moveByte, Bites, TableBites, anyOf, expects, someExpects, allExpect, EveryRowExpects, ExpectsChangeable}
 
 -- ---- one value
 
@@ -59,10 +59,10 @@ right-before port xs r h = either (r .right) (λ e. e) (λ e. clash (sym (wrong-
 reads-bite : (port : ℕ) (xs ys : List ℕ) (r : Seen) → OneOther xs ys → expectAll port xs r .right ≡ true → expectAll port ys r .right ≡ false
 unfolding expectAll
 reads-bite port _ _ r (here x y xs o) h =
-    let e = all-true _ (right-before port xs (answered 0 x r (read (r .system) port)) h) in
+    let e = all-true _ (right-before port xs (answered 0 x 0 r (read (r .system) port)) h) in
     wrong-stays port xs _
     (every-at 2 _ (other-number _ x y o (e .1 .1 .0)))
-reads-bite port _ _ r (later x xs ys o) h = reads-bite port xs ys (answered 0 x r (read (r .system) port)) o h
+reads-bite port _ _ r (later x xs ys o) h = reads-bite port xs ys (answered 0 x 0 r (read (r .system) port)) o h
 
 -- ---- a move
 
@@ -103,9 +103,11 @@ second-of n m t ts k o h = every-stop-later _ _ (every-stop _ _ (other-number k 
 pub bites : Bites
 unfolding perform sendAll
 bites _ _ s (sendAccepted port byte m o) h = second-of 0 m _ _ _ o h
+bites _ _ s (sendUnwarned port byte m o) h = every-at 3 _ (other-number _ 0 m o (all-true _ h .1 .1 .1 .0))
+bites _ _ s (sendNumber port byte n w m o) h = second-of n m _ _ _ o h
+bites _ _ s (sendWarning port byte n w m o) h = every-at 3 _ (other-number _ w m o (all-true _ h .1 .1 .1 .0))
 bites _ _ s (speedAccepted code m o) h = second-of 0 m _ _ _ o h
 bites _ _ s (clocksAccepted z m o) h = second-of 0 m _ _ _ o h
-bites _ _ s (sendRefusedNumber port byte n m o) h = second-of n m _ _ _ o h
 bites _ _ s (expectByte port xs ys o) h = reads-bite port xs ys _ o h
 bites _ _ s (expectRefusedNumber port n m o) h = second-of n m _ _ _ o h
 bites _ _ s (speedRefusedNumber code n m o) h = second-of n m _ _ _ o h
@@ -187,7 +189,7 @@ unfolding expects anyOf
 expects-changeable (fill at bytes) h = clash h
 expects-changeable (latch at bytes) h = clash h
 expects-changeable (send port bytes) h = clash h
-expects-changeable (sendRefused port byte n) h = record { other = _; isOther = sendRefusedNumber port byte n _ (more n) }
+expects-changeable (sendAnswered port byte n w) h = record { other = _; isOther = sendNumber port byte n w _ (more n) }
 expects-changeable (expect port []) h = clash h
 expects-changeable (expect port (x ∷ xs)) h = record { other = _; isOther = expectByte port _ _ (some-other x xs) }
 expects-changeable (expectRefused port n) h = record { other = _; isOther = expectRefusedNumber port n _ (more n) }

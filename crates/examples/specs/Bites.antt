@@ -8,7 +8,7 @@ use mathlib.Core.List.{List, [], _∷_, _++_}
 use Rattle.rules.specs.Choice.{every, any}
 use Rattle.rules.specs.World.{System}
 use Rattle.rules.specs.declared.Core.{Core}
-use Rattle.examples.specs.Rows.{Action, fill, latch, send, sendRefused, expect, expectRefused, speed, speedRefused, clocks, borrow, counts, memory, latches, pointers, counter, status, enabled, count, suppose, supposeCore, supposeCounts, clocksRefused, figure, changed, nextMove, Row, perform, start, failures}
+use Rattle.examples.specs.Rows.{Action, fill, latch, send, sendAnswered, expect, expectRefused, speed, speedRefused, clocks, borrow, counts, memory, latches, pointers, counter, status, enabled, count, suppose, supposeCore, supposeCounts, clocksRefused, figure, changed, nextMove, Row, perform, start, failures}
 use Rattle.examples.specs.WorkedExamples.{table}
 
 -- the value is another
@@ -21,12 +21,14 @@ pub data OneOther : List ℕ → List ℕ → Type 0 where
   later : (x : ℕ) (xs ys : List ℕ) → OneOther xs ys → OneOther (x ∷ xs) (x ∷ ys)
 
 -- an action, and the same with one of the values that it expects replaced by another, be it the 0 of a write, a speed call or
--- a grant that is accepted; those that expect none do not occur
+-- a grant that is accepted, or the 0 of a write without a warning; those that expect none do not occur
 pub data OneChanged : Action → Action → Type 0 where
-  sendAccepted : (port byte m : ℕ) → Other 0 m → OneChanged (send port (byte ∷ [])) (sendRefused port byte m)
+  sendAccepted : (port byte m : ℕ) → Other 0 m → OneChanged (send port (byte ∷ [])) (sendAnswered port byte m 0)
+  sendUnwarned : (port byte m : ℕ) → Other 0 m → OneChanged (send port (byte ∷ [])) (sendAnswered port byte 0 m)
+  sendNumber : (port byte n w m : ℕ) → Other n m → OneChanged (sendAnswered port byte n w) (sendAnswered port byte m w)
+  sendWarning : (port byte n w m : ℕ) → Other w m → OneChanged (sendAnswered port byte n w) (sendAnswered port byte n m)
   speedAccepted : (code m : ℕ) → Other 0 m → OneChanged (speed code) (speedRefused code m)
   clocksAccepted : (z m : ℕ) → Other 0 m → OneChanged (clocks z) (clocksRefused z m)
-  sendRefusedNumber : (port byte n m : ℕ) → Other n m → OneChanged (sendRefused port byte n) (sendRefused port byte m)
   expectByte : (port : ℕ) (xs ys : List ℕ) → OneOther xs ys → OneChanged (expect port xs) (expect port ys)
   expectRefusedNumber : (port n m : ℕ) → Other n m → OneChanged (expectRefused port n) (expectRefused port m)
   speedRefusedNumber : (code n m : ℕ) → Other n m → OneChanged (speedRefused code n) (speedRefused code m)
@@ -75,7 +77,7 @@ unfoldable pub expects : Action → Bool
 expects (fill at bytes) = false
 expects (latch at bytes) = false
 expects (send port bytes) = false
-expects (sendRefused port byte number) = true
+expects (sendAnswered port byte number warning) = true
 expects (expect port bytes) = anyOf bytes
 expects (expectRefused port number) = true
 expects (speed code) = false

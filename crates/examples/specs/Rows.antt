@@ -24,10 +24,10 @@ use Rattle.rules.specs.declared.Core.{Core}
 pub data Action : Type 0 where
   -- these bytes are put into memory, or into the latches, from this address on
   fill latch : ℕ → List ℕ → Action
-  -- these bytes are written to this port, and each write is accepted
+  -- these bytes are written to this port, and each write is accepted without a warning
   send : ℕ → List ℕ → Action
-  -- a write of a byte to this port is refused with this number
-  sendRefused : ℕ → ℕ → ℕ → Action
+  -- a write to this port of this byte is answered with this number and this warning
+  sendAnswered : ℕ → ℕ → ℕ → ℕ → Action
   -- reads of this port are accepted and give these bytes
   expect : ℕ → List ℕ → Action
   -- a read of this port is refused with this number and gives the byte 0
@@ -70,6 +70,13 @@ pub data Action : Type 0 where
   -- the next clock moves a byte: from this address, memory or I/O, to that one, and the byte
   nextMove : ℕ → Bool → ℕ → Bool → ℕ → Action
 
+-- a write to this port of this byte is accepted with this warning; is refused with this number, and without a warning
+abbrev pub sendWarned : ℕ → ℕ → ℕ → Action
+sendWarned port byte warning = sendAnswered port byte 0 warning
+
+abbrev pub sendRefused : ℕ → ℕ → ℕ → Action
+sendRefused port byte number = sendAnswered port byte number 0
+
 pub record Row : Type 0 where
   pub name : String
   pub actions : List Action
@@ -98,17 +105,22 @@ withBuffers m l s =
 abbrev pub withCore : Core → System (List ℕ) → System (List ℕ)
 withCore c s = record { world = record { core = c; buffers = s .world .buffers }; clocks = s .clocks }
 
--- an answer with this number and this byte is right, if all was right before it
-abbrev pub answered : ℕ → ℕ → Seen → Answer (List ℕ) → Seen
-answered number byte r a = seen (every (r .right ∷ eqb (a .answered .number) number ∷ eqb (a .answered .byte) byte ∷ [])) (a .system)
+-- this answer has this number, this byte and this warning
+abbrev pub compared : ℕ → ℕ → ℕ → Answer (List ℕ) → List Bool
+compared number byte warning a =
+    eqb (a .answered .number) number ∷ eqb (a .answered .byte) byte ∷ eqb (a .answered .warning) warning ∷ []
+
+-- such an answer is right, if all was right before it
+abbrev pub answered : ℕ → ℕ → ℕ → Seen → Answer (List ℕ) → Seen
+answered number byte warning r a = seen (every (r .right ∷ compared number byte warning a)) (a .system)
 
 unfoldable pub sendAll : ℕ → List ℕ → Seen → Seen
 sendAll port [] r = r
-sendAll port (x ∷ xs) r = sendAll port xs (answered 0 0 r (write (r .system) port x))
+sendAll port (x ∷ xs) r = sendAll port xs (answered 0 0 0 r (write (r .system) port x))
 
 unfoldable pub expectAll : ℕ → List ℕ → Seen → Seen
 expectAll port [] r = r
-expectAll port (x ∷ xs) r = expectAll port xs (answered 0 x r (read (r .system) port))
+expectAll port (x ∷ xs) r = expectAll port xs (answered 0 x 0 r (read (r .system) port))
 
 -- this many bytes have moved and the block has ended
 abbrev pub supposed : ℕ → Core → Core
@@ -132,15 +144,15 @@ perform (fill at bytes) s =
 perform (latch at bytes) s =
     seen true (withBuffers (s .world .buffers .memory) (placed at bytes (s .world .buffers .latches)) s)
 perform (send port bytes) s = sendAll port bytes (seen true s)
-perform (sendRefused port byte number) s = answered number 0 (seen true s) (write s port byte)
+perform (sendAnswered port byte number warning) s = answered number 0 warning (seen true s) (write s port byte)
 perform (expect port bytes) s = expectAll port bytes (seen true s)
-perform (expectRefused port number) s = answered number 0 (seen true s) (read s port)
-perform (speed code) s = answered 0 0 (seen true s) (setSpeed s code)
-perform (speedRefused code number) s = answered number 0 (seen true s) (setSpeed s code)
-perform (clocks n) s = answered 0 0 (seen true s) (grant flat s n)
+perform (expectRefused port number) s = answered number 0 0 (seen true s) (read s port)
+perform (speed code) s = answered 0 0 0 (seen true s) (setSpeed s code)
+perform (speedRefused code number) s = answered number 0 0 (seen true s) (setSpeed s code)
+perform (clocks n) s = answered 0 0 0 (seen true s) (grant flat s n)
 perform (borrow m l n number) s =
     let a : Answer (List ℕ) = grant flat (withBuffers (replicate m 0) (replicate l 0) s) n in
-    seen (every (eqb (a .answered .number) number ∷ eqb (a .answered .byte) 0 ∷ []))
+    seen (every (compared number 0 0 a))
     (record { world = record { core = a .system .world .core; buffers = s .world .buffers }; clocks = a .system .clocks })
 perform (counts bus held cpu) s =
     seen (every (eqb (s .clocks .bus) bus ∷ eqb (s .clocks .held) held ∷ eqb (s .clocks .cpu) cpu ∷ [])) s
@@ -155,7 +167,7 @@ perform (suppose n) s = seen true (withCore (supposed n (s .world .core)) s)
 perform (supposeCore f) s = seen true (withCore (f (s .world .core)) s)
 perform (supposeCounts bus held cpu) s =
     seen true (record { world = s .world; clocks = record { bus = bus; held = held; cpu = cpu } })
-perform (clocksRefused n number) s = answered number 0 (seen true s) (grant flat s n)
+perform (clocksRefused n number) s = answered number 0 0 (seen true s) (grant flat s n)
 perform (figure f n) s = seen (eqb (f (s .world .core)) n) s
 perform (changed f t) s = seen (Bool·beq (valid (f (s .world .core)) (total (s .clocks))) t) s
 perform (nextMove from fromIo to toIo byte) s = seen (movesSo from fromIo to toIo byte (note flat (s .world) .move)) s

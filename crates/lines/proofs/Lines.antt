@@ -1,19 +1,21 @@
 -- Runs of bytes put into a list one behind the other are their concatenation put, and what was put at its front is what is
--- taken from there. A number has no more digits than are allowed, so that every line has room in 72 bytes.
+-- taken from there. A number has no more digits than are allowed, so that every line has room in 72 bytes. By kind and warning
+-- a line has the mark or is the one of before.
 -- Assumes nothing.
 use Prim.Native.Nat.{ℕ, zero, suc, _+_, _-_, _/_, _%_, _≤_, _<_}
 use native.Mathlib.Omega.{arith}
 use native.Mathlib.Numerals.{add-one}
 use mathlib.Core.Path.{_≡_, refl, sym, ap, _∙_}
 use mathlib.Core.List.{List, [], _∷_, _++_, append-assoc, append-nil}
-use borrow.Author.Tests.{lt-ltb, le-ltb}
+use borrow.Author.Tests.{lt-ltb, le-ltb, ne-eqb}
 use lib.Dec.{eqb, ltb}
 use lib.ListN.{length, take, set, length-set, length-append}
 use lib.Seq.{take-suc-set}
+use Rattle.rules.specs.Choice.{pick}
 use Rattle.rules.specs.Buffers.{placed}
 use Rattle.rules.proofs.Choice.{pick-true, pick-false, pick-both}
 use Rattle.rules.specs.declared.Clocks.{Clocks}
-use Rattle.lines.specs.Lines.{decimalTo, decimal, numberLine, readLine, recordLine, countsLine, Put, PutLine}
+use Rattle.lines.specs.Lines.{decimalTo, decimal, numberLine, writeLine, readLine, recordLine, plainLine, LinesMarked, countsLine, Put, PutLine}
 
 placed-append : (at : ℕ) (xs ys l : List ℕ) → placed (at + length xs) ys (placed at xs l) ≡ placed at (xs ++ ys) l
 unfolding placed
@@ -119,10 +121,16 @@ decimal-more (suc most) n h e =
 pub number-room : (letter n : ℕ) → length (numberLine letter n) ≤ 72
 number-room letter n = omega (arith, length-append (decimal n) (10 ∷ []), decimal-most 20 n)
 
-pub record-room : (kind number byte : ℕ) → length (recordLine kind number byte) ≤ 72
+write-room : (number warning : ℕ) → length (writeLine number warning) ≤ 72
+unfolding writeLine
+write-room number warning =
+    pick-both (λ (xs : List ℕ). length xs ≤ 72) (eqb warning 0) _ _ (number-room 87 number)
+    (simp length-append (omega (arith, decimal-most 20 number)))
+
+pub record-room : (kind number byte warning : ℕ) → length (recordLine kind number byte warning) ≤ 72
 unfolding recordLine readLine
-record-room kind number byte =
-    pick-both (λ (xs : List ℕ). length xs ≤ 72) (eqb kind 1) _ _ (number-room 87 number)
+record-room kind number byte warning =
+    pick-both (λ (xs : List ℕ). length xs ≤ 72) (eqb kind 1) _ _ (write-room number warning)
     (pick-both (λ (xs : List ℕ). length xs ≤ 72) (eqb kind 2) _ _
     (pick-both (λ (xs : List ℕ). length xs ≤ 72) (eqb number 0) _ _ (omega arith) (number-room 82 number))
     (pick-both (λ (xs : List ℕ). length xs ≤ 72) (eqb kind 3) _ _ (number-room 71 number) (number-room 77 number)))
@@ -130,3 +138,20 @@ record-room kind number byte =
 pub counts-room : (k : Clocks) → length (countsLine k) ≤ 72
 counts-room k =
     simp length-append (omega (arith, decimal-most 20 (k .bus), decimal-most 20 (k .held), decimal-most 20 (k .cpu)))
+
+-- ---- the mark
+
+mark-warned : (byte warning : ℕ) → (warning ≡ 0 → ⊥) → recordLine 1 0 byte warning ≡ 87 ∷ 32 ∷ 48 ∷ 32 ∷ 33 ∷ 10 ∷ []
+unfolding recordLine writeLine decimalTo pick
+mark-warned byte warning f = simp (ne-eqb _ _ f)
+
+mark-none : (kind number byte : ℕ) → recordLine kind number byte 0 ≡ plainLine kind number byte
+unfolding recordLine plainLine writeLine pick
+mark-none kind number byte = refl
+
+mark-others : (kind number byte warning : ℕ) → (kind ≡ 1 → ⊥) → recordLine kind number byte warning ≡ plainLine kind number byte
+unfolding recordLine plainLine
+mark-others kind number byte warning f = pick-false _ _ _ (ne-eqb _ _ f) ∙ sym (pick-false _ _ _ (ne-eqb _ _ f))
+
+pub lines-marked : LinesMarked
+lines-marked = record { marked = mark-warned; unmarked = mark-none; others = mark-others }

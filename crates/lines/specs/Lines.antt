@@ -31,6 +31,11 @@ numberThen n byte = decimal n ++ (byte ∷ [])
 abbrev pub numberLine : ℕ → ℕ → List ℕ
 numberLine letter number = letter ∷ 32 ∷ numberThen number 10
 
+-- a port write: W and its number; where there is a warning, a space and an exclamation mark behind it
+unfoldable pub writeLine : ℕ → ℕ → List ℕ
+writeLine number warning =
+    pick (eqb warning 0) (numberLine 87 number) (87 ∷ 32 ∷ (numberThen number 32 ++ (33 ∷ 10 ∷ [])))
+
 -- a port read: R and its number; an accepted one with the byte in two capital hex digits
 unfoldable pub readLine : ℕ → ℕ → List ℕ
 readLine number byte =
@@ -39,11 +44,26 @@ readLine number byte =
     (numberLine 82 number)
 
 -- a record's line by its kind: W, R, G or M
-unfoldable pub recordLine : ℕ → ℕ → ℕ → List ℕ
-recordLine kind number byte =
+unfoldable pub recordLine : ℕ → ℕ → ℕ → ℕ → List ℕ
+recordLine kind number byte warning =
+    pick (eqb kind writeKind) (writeLine number warning)
+    (pick (eqb kind readKind) (readLine number byte)
+    (pick (eqb kind grantKind) (numberLine 71 number) (numberLine 77 number)))
+
+-- the same as it was before there were warnings
+unfoldable pub plainLine : ℕ → ℕ → ℕ → List ℕ
+plainLine kind number byte =
     pick (eqb kind writeKind) (numberLine 87 number)
     (pick (eqb kind readKind) (readLine number byte)
     (pick (eqb kind grantKind) (numberLine 71 number) (numberLine 77 number)))
+
+-- where a line has the mark, and that no other line has changed
+pub record LinesMarked : Type 0 where
+  -- a port write that is accepted with a warning: W, a space, 0, a space, an exclamation mark and a line feed
+  pub marked : (byte warning : ℕ) → (warning ≡ 0 → ⊥) → recordLine writeKind 0 byte warning ≡ 87 ∷ 32 ∷ 48 ∷ 32 ∷ 33 ∷ 10 ∷ []
+  -- without a warning, and of every other kind whatever it is handed, the line of before
+  pub unmarked : (kind number byte : ℕ) → recordLine kind number byte 0 ≡ plainLine kind number byte
+  pub others : (kind number byte warning : ℕ) → (kind ≡ writeKind → ⊥) → recordLine kind number byte warning ≡ plainLine kind number byte
 
 -- the last line of a session without a fault: B and the clock counts, bus, held, CPU
 abbrev pub countsLine : Clocks → List ℕ

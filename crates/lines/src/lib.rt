@@ -4,7 +4,7 @@ ghost use mathlib.Core.Path.{_≡_};
 ghost use mathlib.Core.List.{[], _∷_};
 ghost use Prim.Native.Nat.{_+_, _≤_, _<_};
 ghost use lib.ListN.{length};
-ghost use Rattle.lines.specs.Lines.{decimalTo, hexDigit, numberThen, numberLine, readLine, recordLine, countsLine, faultLine, Put, PutLine};
+ghost use Rattle.lines.specs.Lines.{decimalTo, hexDigit, numberThen, numberLine, writeLine, readLine, recordLine, countsLine, faultLine, Put, PutLine};
 use rules::Clocks;
 
 // The room that a caller lends for a line. The longest, of three counts with 20 digits each, has 65 bytes.
@@ -29,6 +29,9 @@ const FAULT: u8 = b'S';
 const ZERO: u8 = b'0';
 
 const SPACE: u8 = b' ';
+
+// Behind the number of a port write that has a warning.
+const MARK: u8 = b'!';
 
 const LINE_FEED: u8 = b'\n';
 
@@ -111,6 +114,19 @@ fn put_number_line(letter: u8, number: u8, line: &mut [u8]) -> usize
     put_number(wide(number), LINE_FEED, line, at)
 }
 
+// The line of a port write, marked where there is a warning.
+fn put_write_line(number: u8, warning: u8, line: &mut [u8]) -> usize
+    requires { ⌜ 72 ≤ length (now line) ⌝ }
+    ensures { λ r. ⌜ Put (now (line .entry)) 0 (writeLine number warning) (now (line .exit)) r ⌝ }
+{
+    if warning == 0 {
+        return put_number_line(WRITE, number, line);
+    }
+    let at = put_two(WRITE, SPACE, line, 0);
+    let at = put_number(wide(number), SPACE, line, at);
+    put_two(MARK, LINE_FEED, line, at)
+}
+
 // The line of a port read: an accepted one with its byte.
 fn put_read_line(number: u8, byte: u8, line: &mut [u8]) -> usize
     requires { ⌜ 72 ≤ length (now line) ⌝ }
@@ -128,12 +144,12 @@ fn put_read_line(number: u8, byte: u8, line: &mut [u8]) -> usize
 }
 
 // The line of a record, by its kind.
-fn record_line(kind: u8, number: u8, byte: u8, line: &mut [u8]) -> usize
+fn record_line(kind: u8, number: u8, byte: u8, warning: u8, line: &mut [u8]) -> usize
     requires { ⌜ 72 ≤ length (now line) ⌝ }
-    ensures { λ r. ⌜ Put (now (line .entry)) 0 (recordLine kind number byte) (now (line .exit)) r ⌝ }
+    ensures { λ r. ⌜ Put (now (line .entry)) 0 (recordLine kind number byte warning) (now (line .exit)) r ⌝ }
 {
     if kind == records::WRITE {
-        return put_number_line(WRITE, number, line);
+        return put_write_line(number, warning, line);
     }
     if kind == records::READ {
         return put_read_line(number, byte, line);
@@ -155,15 +171,15 @@ fn counts_line(clocks: Clocks, line: &mut [u8]) -> usize
     put_number(clocks.cpu, LINE_FEED, line, at)
 }
 
-// The line of a record of this kind, answered with this number and, for a port read, this byte, at the front of `line`. The
-// answer is its length, 0 where there is no room for a line.
-pub fn put_record_line(kind: u8, number: u8, byte: u8, line: &mut [u8]) -> usize
-    ensures { λ r. ⌜ PutLine (now (line .entry)) (recordLine kind number byte) (now (line .exit)) r ⌝ }
+// The line of a record of this kind, answered with this number and, for a port read, this byte, for a port write this warning,
+// at the front of `line`. The answer is its length, 0 where there is no room for a line.
+pub fn put_record_line(kind: u8, number: u8, byte: u8, warning: u8, line: &mut [u8]) -> usize
+    ensures { λ r. ⌜ PutLine (now (line .entry)) (recordLine kind number byte warning) (now (line .exit)) r ⌝ }
 {
     if line.len() < ROOM {
         return 0;
     }
-    record_line(kind, number, byte, line)
+    record_line(kind, number, byte, warning, line)
 }
 
 // The last line of a session without a fault, put in the same way.

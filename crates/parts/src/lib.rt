@@ -10,3 +10,4 @@ pub mod selection;
 pub mod slot;
 pub mod speed;
 pub mod valid;
+pub mod warning;

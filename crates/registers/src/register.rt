@@ -4,13 +4,22 @@ ghost use Rattle.rules.specs.Bytes.{withLow, withHigh};
 ghost use Rattle.rules.specs.Parts.{withA, withB, withBlock, withLength, withControl, withPrescaler};
 ghost use Rattle.rules.specs.Ports.{timed, addressedLow, addressedHigh};
 ghost use Rattle.rules.specs.Registers.{wr0, wr1, wr2, wr3, wr4, wr5, register, masked, parameter, carriedOutAs, effect, inMode, written};
+ghost use Rattle.rules.specs.Warnings.{warning as warningOf};
+ghost use Rattle.registers.specs.Answers.{decoded};
 use crate::command;
 use parts::bytes;
 use parts::part;
 use parts::pending;
 use parts::port;
 use parts::selection;
+use parts::warning;
 use rules::Core;
+
+// A byte decoded: its warning, and the core after it.
+pub struct Decoded {
+    pub warning: u8,
+    pub core: Core,
+}
 
 // A to B or B to A.
 fn write_wr0(byte: u8, c: Core) -> Core
@@ -247,20 +256,22 @@ fn carry_out(which: u16, byte: u8, c: Core) -> Core
     write_register(number, byte, c)
 }
 
-// A byte takes effect: it is carried out, and what is pending after it is pending.
-fn take_effect(byte: u8, c: Core) -> Core
-    ensures { λ r. ⌜ r ≡ effect byte c ⌝ }
+// A byte takes effect: it is carried out, and what is pending after it is pending. Its warning goes by what was pending.
+fn take_effect(byte: u8, c: Core) -> Decoded
+    ensures { λ r. ⌜ r ≡ decoded (warningOf (c .pending) byte) (effect byte c) ⌝ }
 {
     let parameters = c.pending;
     let which = pending::next_of(parameters);
     let parameters = pending::after(which, byte, parameters);
+    let warning = warning::of(which, byte);
     let c = carry_out(which, byte, c);
-    part::with_pending(parameters, c)
+    let core = part::with_pending(parameters, c);
+    Decoded { warning, core }
 }
 
-// An accepted write.
-pub fn write(port: u16, byte: u8, c: Core) -> Core
-    ensures { λ r. ⌜ r ≡ written port byte c ⌝ }
+// An accepted write: its warning, by what was pending before it, and the core after it.
+pub fn write(port: u16, byte: u8, c: Core) -> Decoded
+    ensures { λ r. ⌜ r ≡ decoded (warningOf (c .pending) byte) (written port byte c) ⌝ }
 {
     let c = in_mode(port, c);
     take_effect(byte, c)

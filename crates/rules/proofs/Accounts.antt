@@ -160,11 +160,11 @@ module _ {M : Type 0} (σ : Store M) where
 
   -- a call that leaves the counter as it is
   uncounted-step :
-      (s : System M) (es : List Event) (n byte : ℕ) (next : Core)
+      (s : System M) (es : List Event) (n byte warning : ℕ) (next : Core)
       → next .block .counter ≡ s .world .core .block .counter → CountsOf s es
-      → Step 0 s (beside (s .world .buffers) (unlessRefused n byte next (s .world .core) (s .clocks))) n (notedUnless n (withCore next (pastOf s es)) (pastOf s es) .past)
+      → Step 0 s (beside (s .world .buffers) (unlessRefused n byte warning next (s .world .core) (s .clocks))) n (notedUnless n (withCore next (pastOf s es)) (pastOf s es) .past)
   unfolding unlessRefused notedUnless
-  uncounted-step s es n byte next e c =
+  uncounted-step s es n byte warning next e c =
       both-picked (λ (r : Reply) (q : Past M). Step 0 s (beside (s .world .buffers) r) n q)
       _ _ _ _ _
       (λ d.
@@ -177,11 +177,11 @@ module _ {M : Type 0} (σ : Store M) where
 
   read-step : (s : System M) (es : List Event) (port n : ℕ) → n ≡ accessRefusal (s .world .core) (total (s .clocks)) port → CountsOf s es → Step 0 s (read s port) n (notedUnless n (withCore (readByte (s .world .core) .core) (pastOf s es)) (pastOf s es) .past)
   unfolding readReplyOver
-  read-step s es port n e c = rw e (uncounted-step s es _ _ _ (read-same (s .world .core)) c)
+  read-step s es port n e c = rw e (uncounted-step s es _ _ _ _ (read-same (s .world .core)) c)
 
   speed-step : (s : System M) (es : List Event) (code n : ℕ) → n ≡ speedRefusal (s .world .core) (total (s .clocks)) code → CountsOf s es → Step 0 s (setSpeed s code) n (notedUnless n (withCore (atSpeed code (s .world .core)) (pastOf s es)) (pastOf s es) .past)
   unfolding speedReplyOver
-  speed-step s es code n e c = rw e (uncounted-step s es _ _ _ refl c)
+  speed-step s es code n e c = rw e (uncounted-step s es _ _ _ _ refl c)
 
   -- ---- a grant
 

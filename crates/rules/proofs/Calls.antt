@@ -127,32 +127,37 @@ power-on-valid =
 
 -- ---- a write or a read, unless it is refused
 
-unless-valid : (number byte : ℕ) (next c : Core) (k : Clocks) → (number ≡ 0 → Kept next) → ValidDevice c k → ValidDevice (unlessRefused number byte next c k .core) (unlessRefused number byte next c k .clocks)
+unless-valid : (number byte warning : ℕ) (next c : Core) (k : Clocks) → (number ≡ 0 → Kept next) → ValidDevice c k → ValidDevice (unlessRefused number byte warning next c k .core) (unlessRefused number byte warning next c k .clocks)
 unfolding unlessRefused
-unless-valid number byte next c k f s =
+unless-valid number byte warning next c k f s =
     pick-cases (λ (r : Reply). ValidDevice (r .core) (r .clocks)) _ _ _
     (λ e. record { core = f (eqb-true _ _ e); sum = s .sum }) (λ e. s)
 
-pub unless-number : (number byte : ℕ) (next c : Core) (k : Clocks) → unlessRefused number byte next c k .answered .number ≡ number
+-- what holds of the core before it, and after it if it is accepted
+pub unless-core : (P : Core → Type 0) (number byte warning : ℕ) (next c : Core) (k : Clocks) → (number ≡ 0 → P next) → P c → P (unlessRefused number byte warning next c k .core)
 unfolding unlessRefused
-unless-number number byte next c k =
+unless-core P number byte warning next c k f h = pick-cases (λ (r : Reply). P (r .core)) _ _ _ (λ e. f (eqb-true _ _ e)) (λ e. h)
+
+pub unless-number : (number byte warning : ℕ) (next c : Core) (k : Clocks) → unlessRefused number byte warning next c k .answered .number ≡ number
+unfolding unlessRefused
+unless-number number byte warning next c k =
     pick-cases (λ (r : Reply). r .answered .number ≡ number) _ _ _ (λ e. sym (eqb-true _ _ e)) (λ e. refl)
 
-unless-refused : (number byte : ℕ) (next c : Core) (k : Clocks) → (unlessRefused number byte next c k .answered .number ≡ 0 → ⊥) → unlessRefused number byte next c k ≡ record { answered = record { number = number; byte = 0 }; core = c; clocks = k }
+unless-refused : (number byte warning : ℕ) (next c : Core) (k : Clocks) → (unlessRefused number byte warning next c k .answered .number ≡ 0 → ⊥) → unlessRefused number byte warning next c k ≡ record { answered = refused number; core = c; clocks = k }
 unfolding unlessRefused
-unless-refused number byte next c k =
+unless-refused number byte warning next c k =
     pick-cases
-    (λ (r : Reply). (r .answered .number ≡ 0 → ⊥) → r ≡ record { answered = record { number = number; byte = 0 }; core = c; clocks = k })
+    (λ (r : Reply). (r .answered .number ≡ 0 → ⊥) → r ≡ record { answered = refused number; core = c; clocks = k })
     _ _ _ (λ e n. absurd (n refl)) (λ e n. refl)
 
 write-valid : (c : Core) (k : Clocks) (port byte : ℕ) → byte < 256 → ValidDevice c k → ValidDevice (writeReply c k port byte .core) (writeReply c k port byte .clocks)
 unfolding writeReplyOver
 write-valid c k port byte h s =
-    unless-valid _ _ _ c k (λ e. write-kept port byte c h (access c (total k) port e .free) (s .core)) s
+    unless-valid _ _ _ _ c k (λ e. write-kept port byte c h (access c (total k) port e .free) (s .core)) s
 
 read-valid : (c : Core) (k : Clocks) (port : ℕ) → ValidDevice c k → ValidDevice (readReply c k port .core) (readReply c k port .clocks)
 unfolding readReplyOver
-read-valid c k port s = unless-valid _ _ _ c k (λ e. read-kept c (s .core)) s
+read-valid c k port s = unless-valid _ _ _ _ c k (λ e. read-kept c (s .core)) s
 
 speed-kept : (c : Core) (code : ℕ) → code ≤ fullSpeed → Kept c → Kept (atSpeed code c)
 speed-kept c code h k =
@@ -161,7 +166,7 @@ speed-kept c code h k =
 
 speed-valid : (c : Core) (k : Clocks) (code : ℕ) → ValidDevice c k → ValidDevice (speedReply c k code .core) (speedReply c k code .clocks)
 unfolding speedReplyOver
-speed-valid c k code s = unless-valid _ _ _ c k (λ e. speed-kept c code (speeds c (total k) code e .known) (s .core)) s
+speed-valid c k code s = unless-valid _ _ _ _ c k (λ e. speed-kept c code (speeds c (total k) code e .known) (s .core)) s
 
 abbrev pub ValidSystem : {M : Type 0} → System M → Type 0
 ValidSystem s = ValidDevice (s .world .core) (s .clocks)
@@ -177,24 +182,24 @@ module _ {M : Type 0} (σ : Store M) where
       (λ e. h)
 
   -- a refused one hands everything back
-  grant-refused : (s : System M) (n : ℕ) → (grant σ s n .answered .number ≡ 0 → ⊥) → grant σ s n ≡ record { answered = record { number = grantNumber σ s n; byte = 0 }; system = s }
+  grant-refused : (s : System M) (n : ℕ) → (grant σ s n .answered .number ≡ 0 → ⊥) → grant σ s n ≡ record { answered = refused (grantNumber σ s n); system = s }
   unfolding grantOver
   grant-refused s n =
       pick-cases
-      (λ (a : Answer M). (a .answered .number ≡ 0 → ⊥) → a ≡ record { answered = record { number = grantNumber σ s n; byte = 0 }; system = s })
+      (λ (a : Answer M). (a .answered .number ≡ 0 → ⊥) → a ≡ record { answered = refused (grantNumber σ s n); system = s })
       _ _ _ (λ e n. absurd (n refl)) (λ e n. refl)
 
-write-refused : (c : Core) (k : Clocks) (port byte : ℕ) → (writeReply c k port byte .answered .number ≡ 0 → ⊥) → writeReply c k port byte ≡ record { answered = record { number = accessRefusal c (total k) port; byte = 0 }; core = c; clocks = k }
+write-refused : (c : Core) (k : Clocks) (port byte : ℕ) → (writeReply c k port byte .answered .number ≡ 0 → ⊥) → writeReply c k port byte ≡ record { answered = refused (accessRefusal c (total k) port); core = c; clocks = k }
 unfolding writeReplyOver
-write-refused c k port byte = unless-refused _ _ _ c k
+write-refused c k port byte = unless-refused _ _ _ _ c k
 
-read-refused : (c : Core) (k : Clocks) (port : ℕ) → (readReply c k port .answered .number ≡ 0 → ⊥) → readReply c k port ≡ record { answered = record { number = accessRefusal c (total k) port; byte = 0 }; core = c; clocks = k }
+read-refused : (c : Core) (k : Clocks) (port : ℕ) → (readReply c k port .answered .number ≡ 0 → ⊥) → readReply c k port ≡ record { answered = refused (accessRefusal c (total k) port); core = c; clocks = k }
 unfolding readReplyOver
-read-refused c k port = unless-refused _ _ _ c k
+read-refused c k port = unless-refused _ _ _ _ c k
 
 speed-refused : (c : Core) (k : Clocks) (code : ℕ) → (speedReply c k code .answered .number ≡ 0 → ⊥) → speedReply c k code ≡ record { answered = refused (speedRefusal c (total k) code); core = c; clocks = k }
 unfolding speedReplyOver
-speed-refused c k code = unless-refused _ _ _ c k
+speed-refused c k code = unless-refused _ _ _ _ c k
 
 -- ---- a grant by its number
 
@@ -224,21 +229,21 @@ unfolding lentRefusalIf firstHit
 invalid-lent c sum memory latches n e = pick-true _ _ _ e
 
 -- unless the number is 1
-unless-one : (number byte : ℕ) (next c : Core) (k : Clocks) → number ≡ 1 → unlessRefused number byte next c k ≡ record { answered = refused 1; core = c; clocks = k }
+unless-one : (number byte warning : ℕ) (next c : Core) (k : Clocks) → number ≡ 1 → unlessRefused number byte warning next c k ≡ record { answered = refused 1; core = c; clocks = k }
 unfolding unlessRefused pick
-unless-one number byte next c k e = rw e refl
+unless-one number byte warning next c k e = rw e refl
 
 pub invalid-write : (c : Core) (k : Clocks) (port byte : ℕ) → not (valid c (total k)) ≡ true → writeReply c k port byte ≡ record { answered = refused 1; core = c; clocks = k }
 unfolding writeReplyOver
-invalid-write c k port byte e = unless-one _ _ _ c k (invalid-access c (total k) port e)
+invalid-write c k port byte e = unless-one _ _ _ _ c k (invalid-access c (total k) port e)
 
 pub invalid-read : (c : Core) (k : Clocks) (port : ℕ) → not (valid c (total k)) ≡ true → readReply c k port ≡ record { answered = refused 1; core = c; clocks = k }
 unfolding readReplyOver
-invalid-read c k port e = unless-one _ _ _ c k (invalid-access c (total k) port e)
+invalid-read c k port e = unless-one _ _ _ _ c k (invalid-access c (total k) port e)
 
 pub invalid-set-speed : (c : Core) (k : Clocks) (code : ℕ) → not (valid c (total k)) ≡ true → speedReply c k code ≡ record { answered = refused 1; core = c; clocks = k }
 unfolding speedReplyOver
-invalid-set-speed c k code e = unless-one _ _ _ c k (invalid-speed c (total k) code e)
+invalid-set-speed c k code e = unless-one _ _ _ _ c k (invalid-speed c (total k) code e)
 
 pub invalid-grant : {M : Type 0} (σ : Store M) (s : System M) (n : ℕ) → not (valid (s .world .core) (total (s .clocks))) ≡ true → grant σ s n ≡ record { answered = refused 1; system = s }
 unfolding grantRefusalIf

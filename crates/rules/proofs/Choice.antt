@@ -5,8 +5,9 @@ use native.Mathlib.Omega.{arith}
 use mathlib.Core.Path.{_≡_, refl, sym, _∙_}
 use mathlib.Core.Bool.{Bool, true, false, _&&_, _||_, not}
 use mathlib.Core.List.{List, [], _∷_}
+use lib.Dec.{eqb}
 use lib.ListN.{getD}
-use borrow.Author.Tests.{not-true, not-false}
+use borrow.Author.Tests.{not-true, not-false, eq-eqb}
 use Rattle.rules.specs.Choice.{pick, Row, _⇒_, firstOf, every, any, means}
 
 -- true is not false
@@ -82,6 +83,28 @@ row-passed r rs x e = pick-false _ _ _ e
 pub row-taken : {X : Type 0} (r : Row X) (rs : List (Row X)) (x : X) → r .holds ≡ true → firstOf (r ∷ rs) x ≡ r .result
 unfolding firstOf
 row-taken r rs x e = pick-true _ _ _ e
+
+-- what is asked where a test holds, before the rest
+abbrev AskedIf : Bool → Type 0 → Type 0 → Type 0
+AskedIf true F G = F × G
+AskedIf false F G = G
+
+-- that a table of numbers gave this one shows something, if each row with this number does so under its test, and so does what
+-- stands below with it; rows with other numbers are not asked
+abbrev pub Shown : ℕ → Type 0 → List (Row ℕ) → ℕ → Type 0
+Shown n F [] x = AskedIf (eqb x n) F (Unit {0})
+Shown n F (r ∷ rs) x = AskedIf (eqb (r .result) n) (r .holds ≡ true → F) (Shown n F rs x)
+
+asked : {F G : Type 0} (t : Bool) → AskedIf t F G → (t ≡ true → F) × G
+asked true a = (λ e. a .0, a .1)
+asked false a = (λ e. clash e, a)
+
+pub shows : {F : Type 0} (n : ℕ) (rs : List (Row ℕ)) (x : ℕ) → firstOf rs x ≡ n → Shown n F rs x → F
+unfolding firstOf
+shows n [] x e a = asked (eqb x n) a .0 (eq-eqb x n e)
+shows {F} n (r ∷ rs) x e a =
+    let b = asked (eqb (r .result) n) a in
+    pick-cases (λ (m : ℕ). m ≡ n → F) (r .holds) _ _ (λ h d. b .0 (eq-eqb _ _ d) h) (λ h d. shows n rs x d (b .1)) e
 
 pub not-of-false : (t : Bool) → t ≡ false → not t ≡ true
 not-of-false true e = clash (sym e)

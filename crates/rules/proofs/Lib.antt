@@ -35,3 +35,4 @@ pub mod Recheck
 pub mod Slowing
 pub mod Unslowed
 pub mod Numbered
+pub mod Warned

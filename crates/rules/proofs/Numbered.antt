@@ -13,6 +13,7 @@ use Rattle.rules.specs.Pending.{next, pendingAfter, validPending}
 use Rattle.rules.specs.PowerOn.{powerOn}
 use Rattle.rules.specs.Speed.{atSpeed}
 use Rattle.rules.specs.Validity.{total, validCoreIf, validCore, validIf, valid}
+use Rattle.rules.specs.Warnings.{warningAs}
 use Rattle.rules.specs.Steering.{validOver}
 use Rattle.rules.specs.Registers.{carriedOutAs, inMode, effectOver, writtenOver, written}
 use Rattle.rules.specs.Readback.{Byte}
@@ -94,40 +95,43 @@ module _ {M : Type 0} where
   abbrev SameReply : Buffers M → ReplyOf SequenceCore → Reply → Type 0
   SameReply b r s = SameAnswer (beside b r) (beside b s)
 
-  unless-same : (b : Buffers M) (number byte : ℕ) (x d : SequenceCore) (k : Clocks) → Valid x → Valid d → SameReply b (unlessRefused number byte x d k) (unlessRefused number byte (numbered x) (numbered d) k)
+  unless-same : (b : Buffers M) (number byte warning : ℕ) (x d : SequenceCore) (k : Clocks) → Valid x → Valid d → SameReply b (unlessRefused number byte warning x d k) (unlessRefused number byte warning (numbered x) (numbered d) k)
   unfolding unlessRefused
-  unless-same b number byte x d k v e =
+  unless-same b number byte warning x d k v e =
       both-picked (SameReply b) _ _ _ _ _
       (λ h. record { answered = refl; system = refl; sequence = v })
       (λ h. record { answered = refl; system = refl; sequence = e })
 
-  -- by equal numbers, bytes and cores
+  -- by equal numbers, bytes, warnings and cores
   reply-same :
-      (b : Buffers M) (number other byte another : ℕ) (x d : SequenceCore) (c : Core) (k : Clocks)
+      (b : Buffers M) (number other byte another warning third : ℕ) (x d : SequenceCore) (c : Core) (k : Clocks)
       → other ≡ number
       → another ≡ byte
+      → third ≡ warning
       → c ≡ numbered x
       → Valid x
       → Valid d
-      → SameReply b (unlessRefused number byte x d k) (unlessRefused other another c (numbered d) k)
-  reply-same b number other byte another x d c k f g h v e = rw f (rw g (rw h (unless-same b number byte x d k v e)))
+      → SameReply b (unlessRefused number byte warning x d k) (unlessRefused other another third c (numbered d) k)
+  reply-same b number other byte another warning third x d c k f g w h v e =
+      rw f (rw g (rw w (rw h (unless-same b number byte warning x d k v e))))
 
   write-same : (b : Buffers M) (d : SequenceCore) (k : Clocks) (port byte : ℕ) → Valid d → SameReply b (writeReplyOver sequences d k port byte) (writeReply (numbered d) k port byte)
   unfolding writeReplyOver
   write-same b d k port byte e =
-      reply-same b _ _ _ _ _ _ _ k (access-same d (total k) port e) refl (written-same port byte d e) (written-valid port byte d e) e
+      reply-same b _ _ _ _ _ _ _ _ _ k (access-same d (total k) port e) refl (ap (λ (n : ℕ). warningAs n byte) (next-same _ e))
+      (written-same port byte d e) (written-valid port byte d e) e
 
   read-same : (b : Buffers M) (d : SequenceCore) (k : Clocks) (port : ℕ) → Valid d → SameReply b (readReplyOver sequences d k port) (readReply (numbered d) k port)
   unfolding readReplyOver
   read-same b d k port e =
       let r = read-aside (numberOf (d .pending)) (d .others) in
-      reply-same b _ _ _ _ _ _ _ k (access-same d (total k) port e) (ap (λ (b : Byte). b .byte) r) (ap (λ (b : Byte). b .core) r) e e
+      reply-same b _ _ _ _ _ _ _ _ _ k (access-same d (total k) port e) (ap (λ (b : Byte). b .byte) r) refl (ap (λ (b : Byte). b .core) r) e e
 
   speed-same : (b : Buffers M) (d : SequenceCore) (k : Clocks) (code : ℕ) → Valid d → SameReply b (speedReplyOver sequences d k code) (speedReply (numbered d) k code)
   unfolding speedReplyOver
   speed-same b d k code e =
-      reply-same b _ _ _ _ _ _ (atSpeed code (numbered d)) k
-      (ap (λ (t : Bool). speedRefusalIf t (total k) code) (core-alike d e)) refl refl e e
+      reply-same b _ _ _ _ _ _ _ _ (atSpeed code (numbered d)) k
+      (ap (λ (t : Bool). speedRefusalIf t (total k) code) (core-alike d e)) refl refl refl e e
 
 -- ---- a grant
 

@@ -38,7 +38,7 @@ use Rattle.rules.proofs.Validity.{core-parts, slot-facts, progress-fact
 use Rattle.rules.proofs.Slots.{unmoved-first, free-settled}
 use Rattle.rules.proofs.Stretches.{clock-first, clock-later}
 use Rattle.rules.proofs.World.{clocked-zero, clocked-suc}
-use Rattle.rules.proofs.Calls.{access, invalid-access, invalid-speed, invalid-lent, valid-parts}
+use Rattle.rules.proofs.Calls.{access, unless-core, invalid-access, invalid-speed, invalid-lent, valid-parts}
 use Rattle.rules.proofs.Along.{runs-agree, histories-agree}
 use Rattle.rules.proofs.Alike.{Agrees, grant-same, entry-same, note-same}
 
@@ -172,25 +172,20 @@ read-unhit : (c : Core) → Unhit c → Unhit (readByte c .core)
 unfolding readByte recheckHits
 read-unhit c h = table (λ (b : Byte). Unhit (b .core)) (h ⨾ h ⨾ below h)
 
--- unless it is refused
-unless-unhit : (number byte : ℕ) (next c : Core) (k : Clocks) → (number ≡ 0 → Unhit next) → Unhit c → Unhit (unlessRefused number byte next c k .core)
-unfolding unlessRefused
-unless-unhit number byte next c k f h = pick-cases (λ (r : Reply). Unhit (r .core)) _ _ _ (λ e. f (eqb-true _ _ e)) (λ e. h)
-
 write-unhit : (c : Core) (k : Clocks) (port byte : ℕ) → Unhit c → Unhit (writeReply c k port byte .core)
 unfolding writeReplyOver
 write-unhit c k port byte h =
-    unless-unhit _ _ _ c k
+    unless-core Unhit _ _ _ _ c k
     (λ e. let a = access c (total k) port e in written-unhit port byte c (free-away c (valid-parts c (total k) (a .state)) (a .free)))
     h
 
 reply-unhit : (c : Core) (k : Clocks) (port : ℕ) → Unhit c → Unhit (readReply c k port .core)
 unfolding readReplyOver
-reply-unhit c k port h = unless-unhit _ _ _ c k (λ e. read-unhit c h) h
+reply-unhit c k port h = unless-core Unhit _ _ _ _ c k (λ e. read-unhit c h) h
 
 speed-unhit : (c : Core) (k : Clocks) (code : ℕ) → Unhit c → Unhit (speedReply c k code .core)
 unfolding speedReplyOver recheckHits
-speed-unhit c k code h = unless-unhit _ _ _ c k (λ e. h) h
+speed-unhit c k code h = unless-core Unhit _ _ _ _ c k (λ e. h) h
 
 grant-unhit : {M : Type 0} (σ : Store M) (s : System M) (n : ℕ) → Unhit (s .world .core) → Unhit (grant σ s n .system .world .core)
 unfolding grantOver

@@ -118,17 +118,17 @@ valid-exact =
     }
 
 -- each call answers with its number
-write-number : (c : Core) (k : Clocks) (port byte : ℕ) → writeReply c k port byte .answered .number ≡ accessRefusal c (total k) port
+pub write-number : (c : Core) (k : Clocks) (port byte : ℕ) → writeReply c k port byte .answered .number ≡ accessRefusal c (total k) port
 unfolding writeReplyOver
-write-number c k port byte = unless-number _ _ _ c k
+write-number c k port byte = unless-number _ _ _ _ c k
 
 read-number : (c : Core) (k : Clocks) (port : ℕ) → readReply c k port .answered .number ≡ accessRefusal c (total k) port
 unfolding readReplyOver
-read-number c k port = unless-number _ _ _ c k
+read-number c k port = unless-number _ _ _ _ c k
 
 speed-number : (c : Core) (k : Clocks) (code : ℕ) → speedReply c k code .answered .number ≡ speedRefusal c (total k) code
 unfolding speedReplyOver
-speed-number c k code = unless-number _ _ _ c k
+speed-number c k code = unless-number _ _ _ _ c k
 
 grant-number : (s : System (List ℕ)) (n : ℕ) → grant flat s n .answered .number ≡ grantNumber flat s n
 unfolding grantOver

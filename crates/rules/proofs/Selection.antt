@@ -1,21 +1,22 @@
--- Counted over all 256 bytes; a byte that selects no register passes all seven tests by, and is not BB either.
+-- Counted over all 256 bytes; row by row of the table; a byte that selects no register passes all seven tests by, and is not
+-- BB either.
 -- Assumes nothing.
-use Prim.Native.Nat.{ℕ}
+use Prim.Native.Nat.{ℕ, _%_, _≤_, _<_}
 use native.Mathlib.Omega.{arith}
 use mathlib.Core.Path.{_≡_, refl, sym, _∙_, ap}
 use mathlib.Core.Bool.{Bool, true, false}
 use mathlib.Core.List.{List, _∷_}
 use lib.Dec.{eqb}
-use borrow.Author.Tests.{ne-eqb}
+use borrow.Author.Tests.{ne-eqb, eqb-true, eqb-false, eq-eqb, ltb-true, lt-ltb, le-ltb, leb-true, le-leb, not-true}
 use Rattle.rules.specs.Choice.{pick, firstOf}
 use Rattle.rules.specs.Parts.{withPending}
 use Rattle.rules.specs.Selection.{selects}
 use Rattle.rules.specs.Pending.{isPending, asked, pendingAfterAs, pendingAfter}
 use Rattle.rules.specs.Registers.{register, inMode, carriedOut, effect, written, carriedOutAs, effectOver}
-use Rattle.rules.specs.Exactly.{holding, selected, selecting, SelectionExact}
+use Rattle.rules.specs.Exactly.{Exactly, holding, selected, selecting, SelectionExact}
 use Rattle.rules.specs.Opened.{opened}
 use Rattle.rules.specs.declared.Core.{Core}
-use Rattle.rules.proofs.Choice.{pick-false}
+use Rattle.rules.proofs.Choice.{pick-false, row-passed, row-taken, shows, not-of-false, all-true, true-all, every-at}
 
 pub one-register : selecting 1 256 ≡ 232
 unfolding opened holding selecting
@@ -32,7 +33,7 @@ none-first true ts e = absurd (omega (arith, e))
 none-first false ts e = (refl, omega (arith, e))
 
 -- a byte that selects no register has number 7
-idle : (byte : ℕ) → selected byte ≡ 0 → selects byte ≡ 7
+pub idle : (byte : ℕ) → selected byte ≡ 0 → selects byte ≡ 7
 unfolding selects firstOf
 idle byte e =
     let h0 = none-first _ _ e in
@@ -49,6 +50,36 @@ idle byte e =
     ∙ pick-false _ _ _ (h4 .0)
     ∙ pick-false _ _ _ (h5 .0)
     ∙ pick-false _ _ _ (h6 .0)
+
+-- ---- WR0 and WR4 by their bits
+
+pub wr0-exact : (byte : ℕ) → Exactly (selects byte ≡ 0) ((byte < 128) × (byte % 4 ≡ 0 → ⊥))
+unfolding selects
+wr0-exact byte =
+    record {
+      to =
+          λ e.
+          shows 0 _ _ e
+          ((λ t. let h = all-true _ t in (ltb-true _ _ (h .0), eqb-false _ _ (not-true _ (h .1 .0)))), tt);
+      from = λ h. row-taken _ _ _ (true-all _ (lt-ltb _ _ (h .0), (not-of-false _ (ne-eqb _ _ (h .1)), tt)));
+    }
+
+pub wr4-exact : (byte : ℕ) → Exactly (selects byte ≡ 4) ((128 ≤ byte) × (byte % 4 ≡ 1))
+unfolding selects
+wr4-exact byte =
+    record {
+      to =
+          λ e.
+          shows 4 _ _ e
+          ((λ t. let h = all-true _ t in (leb-true _ _ (h .0), eqb-true _ _ (h .1 .0))), tt);
+      from =
+          λ h.
+          row-passed _ _ _ (every-at 0 _ (le-ltb byte 128 (h .0)))
+          ∙ row-passed _ _ _ (every-at 0 _ (le-ltb byte 128 (h .0)))
+          ∙ row-passed _ _ _ (every-at 0 _ (le-ltb byte 128 (h .0)))
+          ∙ row-passed _ _ _ (every-at 1 _ (ne-eqb (byte % 4) 0 (λ z. let e = h .1 in omega (arith, e, z))))
+          ∙ row-taken _ _ _ (true-all _ (le-leb _ _ (h .0), (eq-eqb _ _ (h .1), tt)));
+    }
 
 idle-register : (byte : ℕ) (c : Core) → selects byte ≡ 7 → register (selects byte) byte c ≡ c
 unfolding register firstOf pick
@@ -77,4 +108,4 @@ idle-written : (port byte : ℕ) (c : Core) → selected byte ≡ 0 → isPendin
 idle-written port byte c e p = idle-effect byte (inMode port c) (idle byte e) p
 
 pub selection-exact : SelectionExact
-selection-exact = record { one = one-register; none = no-register; idle = idle-written }
+selection-exact = record { one = one-register; none = no-register; wr0 = wr0-exact; wr4 = wr4-exact; idle = idle-written }

@@ -29,7 +29,7 @@ use Rattle.rules.proofs.Validity.{core-parts, port-cycle}
 use Rattle.rules.proofs.Slots.{slot-runs}
 use Rattle.rules.proofs.Clock.{new-length}
 use Rattle.rules.proofs.World.{clocked-keeps}
-use Rattle.rules.proofs.Calls.{invalid-set-speed}
+use Rattle.rules.proofs.Calls.{unless-core, invalid-set-speed}
 use Rattle.rules.proofs.Aside.{slot-speed}
 use Rattle.rules.proofs.Framing.{written-framed, read-framed, clock-timed}
 
@@ -39,17 +39,17 @@ use Rattle.rules.proofs.Framing.{written-framed, read-framed, clock-tim
 abbrev Any : Slot → Type 0
 Any s = Unit {0}
 
-unless-speed : (number byte : ℕ) (next c : Core) (k : Clocks) → next .control .speed ≡ c .control .speed → unlessRefused number byte next c k .core .control .speed ≡ c .control .speed
-unfolding unlessRefused
-unless-speed number byte next c k e = pick-both (λ (r : Reply). r .core .control .speed ≡ c .control .speed) _ _ _ e refl
+-- this core has the speed of that one
+abbrev SpeedOf : Core → Core → Type 0
+SpeedOf c d = d .control .speed ≡ c .control .speed
 
 write-speed : (c : Core) (k : Clocks) (port byte : ℕ) → writeReply c k port byte .core .control .speed ≡ c .control .speed
 unfolding writeReplyOver
-write-speed c k port byte = unless-speed _ _ _ c k (written-framed _ Any tt port byte c (refl, tt) .0)
+write-speed c k port byte = unless-core (SpeedOf c) _ _ _ _ c k (λ e. written-framed _ Any tt port byte c (refl, tt) .0) refl
 
 read-speed : (c : Core) (k : Clocks) (port : ℕ) → readReply c k port .core .control .speed ≡ c .control .speed
 unfolding readReplyOver
-read-speed c k port = unless-speed _ _ _ c k (read-framed _ Any tt c (refl, tt) .0)
+read-speed c k port = unless-core (SpeedOf c) _ _ _ _ c k (λ e. read-framed _ Any tt c (refl, tt) .0) refl
 
 clock-speed : (c : Core) → clockOf c .next .control .speed ≡ c .control .speed
 clock-speed c = clock-timed (λ a b speed pending. speed ≡ c .control .speed) Any tt c (refl, tt) tt .0

@@ -27,9 +27,10 @@ module _ {M C : Type 0} (σ : Store M) (ω : Outside M C) where
   answers-each [] s = refl
   answers-each (e ∷ es) s = ap suc (answers-each es (enter σ ω e s .system))
 
-  grant-byte : (s : System M) (n : ℕ) → grant σ s n .answered .byte ≡ 0
+  -- neither a byte nor a warning
+  grant-plain : (s : System M) (n : ℕ) → (grant σ s n .answered .byte ≡ 0) × (grant σ s n .answered .warning ≡ 0)
   unfolding grantOver
-  grant-byte s n = pick-both (λ (a : Answer M). a .answered .byte ≡ 0) _ _ _ refl refl
+  grant-plain s n = pick-both (λ (a : Answer M). (a .answered .byte ≡ 0) × (a .answered .warning ≡ 0)) _ _ _ (refl, refl) (refl, refl)
 
   -- grants that are accepted in turn
   grants-run : (ns : List ℕ) (s t : System M) → AcceptedInTurn σ ns s t → run σ ω (grants ns) s ≡ record { answers = acceptedAnswers ns; system = t }
@@ -37,7 +38,8 @@ module _ {M C : Type 0} (σ : Store M) (ω : Outside M C) where
   grants-run [] s t a = λ i. record { answers = []; system = a i }
   grants-run (n ∷ ns) s t a =
       let h = grants-run ns (grant σ s n .system) t (a .1) in
-      λ i. record { answers = record { number = a .0 i; byte = grant-byte s n i } ∷ h i .answers; system = h i .system }
+      let p = grant-plain s n in
+      λ i. record { answers = record { number = a .0 i; byte = p .0 i; warning = p .1 i } ∷ h i .answers; system = h i .system }
 
   -- grants that are accepted in turn, between other entries
   grants-between :

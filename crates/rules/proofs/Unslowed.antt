@@ -31,7 +31,7 @@ use Rattle.rules.specs.declared.Core.{Core}
 use Rattle.rules.proofs.Choice.{clash, pick-true, pick-false, pick-cases, pick-both, both-picked, either, all-true, true-all, every-stop, every-stop-later, every-at, any-first, any-more, any-cases, any-none}
 use Rattle.rules.proofs.Speed.{bus-full}
 use Rattle.rules.proofs.Validity.{core-parts, port-cycle, prescaled-facts}
-use Rattle.rules.proofs.Calls.{access, granted, valid-core}
+use Rattle.rules.proofs.Calls.{access, granted, unless-core, valid-core}
 use Rattle.rules.proofs.World.{clocked-keeps}
 use Rattle.rules.proofs.Framing.{written-framed, read-framed, clock-timed}
 use Rattle.rules.proofs.Along.{enters, notes, run-along, history-along, runs-agree, histories-agree, along-others}
@@ -191,10 +191,6 @@ framed c f v = (f .0, f .1 v)
 short-at3 : (c : Core) → (c .control .speed ≡ 3) × Short (c .slot) → At3 c
 short-at3 c f = (f .0, λ v. f .1)
 
-unless-at3 : (number byte : ℕ) (next c : Core) (k : Clocks) → (number ≡ 0 → At3 next) → At3 c → At3 (unlessRefused number byte next c k .core)
-unfolding unlessRefused
-unless-at3 number byte next c k f g = pick-cases (λ (r : Reply). At3 (r .core)) _ _ _ (λ e. f (eqb-true _ _ e)) (λ e. g)
-
 -- a port write or a port read that is accepted
 access-framed : (c : Core) (sum port : ℕ) → At3 c → accessRefusal c sum port ≡ 0 → (c .control .speed ≡ 3) × Short (c .slot)
 access-framed c sum port f e = framed c f (valid-core c sum (access c sum port e .state))
@@ -202,12 +198,12 @@ access-framed c sum port f e = framed c f (valid-core c sum (access c sum port e
 write-at3 : (c : Core) (k : Clocks) (port byte : ℕ) → At3 c → At3 (writeReply c k port byte .core)
 unfolding writeReplyOver
 write-at3 c k port byte f =
-    unless-at3 _ _ _ c k (λ e. short-at3 _ (written-framed 3 Short rest-short port byte c (access-framed c (total k) port f e))) f
+    unless-core At3 _ _ _ _ c k (λ e. short-at3 _ (written-framed 3 Short rest-short port byte c (access-framed c (total k) port f e))) f
 
 read-at3 : (c : Core) (k : Clocks) (port : ℕ) → At3 c → At3 (readReply c k port .core)
 unfolding readReplyOver
 read-at3 c k port f =
-    unless-at3 _ _ _ c k (λ e. short-at3 _ (read-framed 3 Short rest-short c (access-framed c (total k) port f e))) f
+    unless-core At3 _ _ _ _ c k (λ e. short-at3 _ (read-framed 3 Short rest-short c (access-framed c (total k) port f e))) f
 
 grant-at3 : {M : Type 0} (σ : Store M) (s : System M) (n : ℕ) → At3 (s .world .core) → At3 (grant σ s n .system .world .core)
 unfolding grantOver

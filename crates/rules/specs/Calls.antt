@@ -3,6 +3,7 @@
 use Prim.Native.Nat.{ℕ}
 use lib.Dec.{eqb}
 use Rattle.rules.specs.Choice.{pick}
+use Rattle.rules.specs.Warnings.{noWarning, warningAs}
 use Rattle.rules.specs.Steering.{Steering, bits}
 use Rattle.rules.specs.Validity.{total}
 use Rattle.rules.specs.Speed.{atSpeed}
@@ -15,10 +16,12 @@ use Rattle.rules.specs.Refusals.{accessRefusalOver, speedRefusalOver, gr
 use Rattle.rules.specs.declared.Clocks.{Clocks}
 use Rattle.rules.specs.declared.Core.{Core}
 
--- what a call is answered with: its number, and a byte, 0 for all but an accepted read
+-- what a call is answered with: its number, a byte, 0 for all but an accepted read, and a warning, 0 for all but an accepted
+-- write
 pub record Answered : Type 0 where
   pub number : ℕ
   pub byte : ℕ
+  pub warning : ℕ
 
 -- the answer to a port write, a port read or a speed call, and core, kept as D, and clock counts after it
 pub record ReplyOf (D : Type 0) : Type 0 where
@@ -31,19 +34,19 @@ pub record AnswerOf (D M : Type 0) : Type 0 where
   pub answered : Answered
   pub system : SystemOf D M
 
--- accepted with a byte, and refused with a number
+-- accepted with a byte, and refused with a number, both without a warning
 abbrev pub accepted : ℕ → Answered
-accepted byte = record { number = 0; byte = byte }
+accepted byte = record { number = 0; byte = byte; warning = noWarning }
 
 abbrev pub refused : ℕ → Answered
-refused number = record { number = number; byte = 0 }
+refused number = record { number = number; byte = 0; warning = noWarning }
 
--- a port write, a port read or a speed call: unless it is refused, it gives this byte and leaves the core so; a refused one
--- leaves everything as it came
-unfoldable pub unlessRefused : {D : Type 0} → ℕ → ℕ → D → D → Clocks → ReplyOf D
-unlessRefused number byte next d k =
+-- a port write, a port read or a speed call: unless it is refused, it gives this byte and this warning and leaves the core so;
+-- a refused one leaves everything as it came
+unfoldable pub unlessRefused : {D : Type 0} → ℕ → ℕ → ℕ → D → D → Clocks → ReplyOf D
+unlessRefused number byte warning next d k =
     pick (eqb number 0)
-    (record { answered = accepted byte; core = next; clocks = k })
+    (record { answered = record { number = 0; byte = byte; warning = warning }; core = next; clocks = k })
     (record { answered = refused number; core = d; clocks = k })
 
 -- a reply beside buffers that the call does not touch
@@ -54,16 +57,16 @@ beside b r = record { answered = r .answered; system = system (r .core) b (r .cl
 module _ {D : Type 0} (δ : Steering D) where
   unfoldable pub writeReplyOver : D → Clocks → ℕ → ℕ → ReplyOf D
   writeReplyOver d k port byte =
-      unlessRefused (accessRefusalOver δ d (total k) port) 0 (writtenOver δ port byte d) d k
+      unlessRefused (accessRefusalOver δ d (total k) port) 0 (warningAs (δ .next d) byte) (writtenOver δ port byte d) d k
 
   unfoldable pub readReplyOver : D → Clocks → ℕ → ReplyOf D
   readReplyOver d k port =
       let r : Byte = readByte (δ .core d) in
-      unlessRefused (accessRefusalOver δ d (total k) port) (r .byte) (δ .with (r .core) d) d k
+      unlessRefused (accessRefusalOver δ d (total k) port) (r .byte) noWarning (δ .with (r .core) d) d k
 
   unfoldable pub speedReplyOver : D → Clocks → ℕ → ReplyOf D
   speedReplyOver d k code =
-      unlessRefused (speedRefusalOver δ d (total k) code) 0 (δ .with (atSpeed code (δ .core d)) d) d k
+      unlessRefused (speedRefusalOver δ d (total k) code) 0 noWarning (δ .with (atSpeed code (δ .core d)) d) d k
 
 module _ {D M : Type 0} (δ : Steering D) where
   abbrev pub writeOver : SystemOf D M → ℕ → ℕ → AnswerOf D M

@@ -11,7 +11,7 @@ use Rattle.rules.specs.Bytes.{bit}
 use Rattle.rules.specs.Blocks.{blockCount, finished}
 use Rattle.rules.specs.Speed.{atSpeed}
 use Rattle.rules.specs.Slots.{busHeld}
-use Rattle.rules.specs.Selection.{isWR0, isWR1, isWR2, isWR4, selections}
+use Rattle.rules.specs.Selection.{isWR0, isWR1, isWR2, isWR4, selections, selects}
 use Rattle.rules.specs.Pending.{aLow, aHigh, lengthLow, lengthHigh, aTiming, bTiming, prescaler, bLow, bHigh, readMask, nothing, next, isPending, rest, wr0Asks, timingAsks, wr4Asks, pendingAfter, validPending}
 use Rattle.rules.specs.Validity.{validPort, validReadback, validSlot, validCore, valid, total, most64}
 use Rattle.rules.specs.Facts.{ValidParts, ValidCycle, ValidReading, ValidSlot}
@@ -228,5 +228,8 @@ pub record SelectionExact : Type 0 where
   -- of the 256 bytes 232 select one register and 24 select none
   pub one : selecting 1 256 ≡ 232
   pub none : selecting 0 256 ≡ 24
+  -- WR0 is 0xxxxxAA with AA not 00, WR4 is 1xxxxx01
+  pub wr0 : (byte : ℕ) → Exactly (selects byte ≡ 0) ((byte < 128) × (byte % 4 ≡ 0 → ⊥))
+  pub wr4 : (byte : ℕ) → Exactly (selects byte ≡ 4) ((128 ≤ byte) × (byte % 4 ≡ 1))
   -- these change nothing but the compatibility mode, while no parameter is pending
   pub idle : (port byte : ℕ) (c : Core) → selected byte ≡ 0 → isPending (c .pending) ≡ false → written port byte c ≡ inMode port c

@@ -39,9 +39,9 @@ pub record StaysValidByTest {M : Type 0} (σ : Store M) : Type 0 where
   pub clock : (c : Core) → InRange c → validCore c ≡ true → validCore (clockOf c .next) ≡ true
   pub granted : (s : System M) (n : ℕ) → InRange (s .world .core) → Passes (s .world .core) (s .clocks) → Passes (grant σ s n .system .world .core) (grant σ s n .system .clocks)
 
--- a refused call answers its number, no byte, and all that it was handed
+-- a refused call answers its number, no byte, no warning, and all that it was handed
 pub record HandsBack {M : Type 0} (σ : Store M) : Type 0 where
-  pub write : (c : Core) (k : Clocks) (port byte : ℕ) → (writeReply c k port byte .answered .number ≡ 0 → ⊥) → writeReply c k port byte ≡ record { answered = record { number = accessRefusal c (total k) port; byte = 0 }; core = c; clocks = k }
-  pub read : (c : Core) (k : Clocks) (port : ℕ) → (readReply c k port .answered .number ≡ 0 → ⊥) → readReply c k port ≡ record { answered = record { number = accessRefusal c (total k) port; byte = 0 }; core = c; clocks = k }
-  pub speed : (c : Core) (k : Clocks) (code : ℕ) → (speedReply c k code .answered .number ≡ 0 → ⊥) → speedReply c k code ≡ record { answered = refused (speedRefusal c (total k) code); core = c; clocks = k }
-  pub granted : (s : System M) (n : ℕ) → (grant σ s n .answered .number ≡ 0 → ⊥) → grant σ s n ≡ record { answered = record { number = grantNumber σ s n; byte = 0 }; system = s }
+  pub write : (c : Core) (k : Clocks) (port byte : ℕ) → (writeReply c k port byte .answered .number ≡ 0 → ⊥) → writeReply c k port byte ≡ record { answered = record { number = accessRefusal c (total k) port; byte = 0; warning = 0 }; core = c; clocks = k }
+  pub read : (c : Core) (k : Clocks) (port : ℕ) → (readReply c k port .answered .number ≡ 0 → ⊥) → readReply c k port ≡ record { answered = record { number = accessRefusal c (total k) port; byte = 0; warning = 0 }; core = c; clocks = k }
+  pub speed : (c : Core) (k : Clocks) (code : ℕ) → (speedReply c k code .answered .number ≡ 0 → ⊥) → speedReply c k code ≡ record { answered = record { number = speedRefusal c (total k) code; byte = 0; warning = 0 }; core = c; clocks = k }
+  pub granted : (s : System M) (n : ℕ) → (grant σ s n .answered .number ≡ 0 → ⊥) → grant σ s n ≡ record { answered = record { number = grantNumber σ s n; byte = 0; warning = 0 }; system = s }

@@ -8,6 +8,7 @@ pub mod Speed
 pub mod Slots
 pub mod Selection
 pub mod Pending
+pub mod Warnings
 pub mod PowerOn
 pub mod Validity
 pub mod Steering
@@ -37,4 +38,6 @@ pub mod Numbered
 pub mod Slowing
 pub mod At28
 pub mod Unslowed
+pub mod Unwarned
+pub mod Warned
 pub mod Opened

@@ -7,6 +7,7 @@ use Rattle.rules.specs.Speed.{factor}
 use Rattle.rules.specs.Slots.{waiting, busHeld, unmoved, busTimeOf, larger, slotLength, slotOf}
 use Rattle.rules.specs.Selection.{selects}
 use Rattle.rules.specs.Pending.{next, ask, asked, usedUp, pendingAfterAs, validPending}
+use Rattle.rules.specs.Warnings.{warningAs}
 use Rattle.rules.specs.Validity.{validPort, validReadback, restingSlot, prescaledLength, validLength, runningSlot, validSlot, validProgress, validCoreIf, validIf}
 use Rattle.rules.specs.Commands.{enable, readingCommand, command}
 use Rattle.rules.specs.Registers.{wr3, register, parameter, carriedOutAs, effectOver}
@@ -26,7 +27,7 @@ partsOpened = tt
 
 -- what bytes do, and what they read
 unfoldable bytesOpened : Unit {0}
-unfolding selects next ask asked usedUp pendingAfterAs validPending enable readingCommand command wr3 register parameter carriedOutAs effectOver statusByte registerByte after seek readByte
+unfolding selects next ask asked usedUp pendingAfterAs validPending warningAs enable readingCommand command wr3 register parameter carriedOutAs effectOver statusByte registerByte after seek readByte
 bytesOpened = tt
 
 -- which devices are valid

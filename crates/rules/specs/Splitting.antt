@@ -41,7 +41,7 @@ grants (n ∷ ns) = clockGrant n ∷ grants ns
 
 unfoldable pub acceptedAnswers : List ℕ → List Answered
 acceptedAnswers [] = []
-acceptedAnswers (n ∷ ns) = record { number = 0; byte = 0 } ∷ acceptedAnswers ns
+acceptedAnswers (n ∷ ns) = record { number = 0; byte = 0; warning = 0 } ∷ acceptedAnswers ns
 
 module _ {M C : Type 0} (σ : Store M) (ω : Outside M C) (m : M) (l : List ℕ) where
   -- from power-on: the run of a list in which grants stand between other entries, and what its history comes to

@@ -4,4 +4,5 @@ pub mod Pieces
 pub mod Moving
 pub mod RoundTrip
 pub mod Served
+pub mod Marked
 pub mod Examples

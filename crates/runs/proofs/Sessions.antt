@@ -19,13 +19,15 @@ use Rattle.rules.specs.Calls.{Answer}
 use Rattle.rules.specs.Entries.{Poke, flatOutside, Entry, portWrite, portRead, clockGrant, outsideChange, bytesWritten, run, runOver}
 use Rattle.rules.proofs.Choice.{pick-both, pick-cases, pick-true}
 use Rattle.rules.proofs.Accounts.{demand3}
+use Rattle.rules.proofs.Warned.{warnings-noted}
 use Rattle.rules.proofs.Reached.{every-reached}
 use Rattle.records.specs.Records.{recordAt}
 use Rattle.records.specs.declared.Record.{Record}
 use Rattle.records.proofs.Choosing.{both}
 use Rattle.records.proofs.Standing.{stands, at-end, small-byte}
-use Rattle.lines.specs.Lines.{recordLine, countsLine, faultLine}
+use Rattle.lines.specs.Lines.{countsLine, faultLine}
 use Rattle.session.specs.Effects.{entryOf, effect}
+use Rattle.session.specs.Steps.{answerLine}
 use Rattle.runs.specs.Sessions.{Decoded, endsBy, recordBefore, decodedFrom, decoded, entriesOf, sessionEntries, linesOf, lastLine, Ended, printed, FaultNumber, FaultKnown, AllRead, SessionRuns}
 use Rattle.runs.specs.Stepping.{endedBy, lineBefore}
 
@@ -35,11 +37,8 @@ abbrev pub played : List ℕ → Decoded → System (List ℕ) → Ended
 played xs d s = printed d (run flat flatOutside (entriesOf xs (d .records)) s)
 
 -- a record that was answered: its line, and what follows it
-abbrev pub answerLine : Record → Answer (List ℕ) → List ℕ
-answerLine r a = recordLine (r .number) (a .answered .number) (a .answered .byte)
-
 abbrev pub followed : ℕ → List ℕ → Record → Answer (List ℕ) → Ended
-followed most xs r a = lineBefore (answerLine r a) (played xs (decodedFrom most xs (r .next)) (a .system))
+followed most xs r a = lineBefore (answerLine r (a .answered)) (played xs (decodedFrom most xs (r .next)) (a .system))
 
 -- by a record, or by what stands in place of one
 unfoldable pub after : ℕ → List ℕ → Record → System (List ℕ) → Ended
@@ -60,11 +59,11 @@ module _ (xs : List ℕ) (s : System (List ℕ)) where
   played-fault fault e = simp e
 
   -- one record more
-  played-more : (r : Record) (d : Decoded) → played xs (recordBefore r d) s ≡ lineBefore (answerLine r (effect xs r s)) (played xs d (effect xs r s .system))
+  played-more : (r : Record) (d : Decoded) → played xs (recordBefore r d) s ≡ lineBefore (answerLine r (effect xs r s .answered)) (played xs d (effect xs r s .system))
   unfolding entriesOf runOver linesOf
   played-more r d =
       ap (λ (l : List ℕ). endedBy l (d .fault) (played xs d (effect xs r s .system) .system))
-      (append-assoc (answerLine r (effect xs r s)) _ _)
+      (append-assoc (answerLine r (effect xs r s .answered)) _ _)
 
   -- by what stands at a place
   pub played-from : (most p : ℕ) → played xs (decodedFrom (suc most) xs p) s ≡ after most xs (recordAt xs p true) s
@@ -120,6 +119,7 @@ session-runs xs =
       accounted = accounted;
       reached = λ b. every-reached (List ℕ) (List Poke) flat flatOutside zeros zeros (sessionEntries xs) (session-writes xs b);
       splits = λ b. accounted .splits (session-writes xs b);
+      warnings = warnings-noted _ _ flat flatOutside (replicate 65536 0) (replicate 65536 0) (sessionEntries xs);
     }
 
 -- ---- the fault of a session

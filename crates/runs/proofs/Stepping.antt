@@ -18,14 +18,14 @@ use Rattle.zxndma.specs.declared.Device.{Device}
 use Rattle.records.specs.Records.{none, recordAt, longLength}
 use Rattle.lines.specs.Lines.{countsLine, faultLine}
 use Rattle.session.specs.Effects.{effect}
-use Rattle.session.specs.Steps.{Said, Outcome, inPhase, sessionAtStart, deviceOf, systemWith, carried, lastCounts, lastFault, withoutLine, buffersKept, versionStep, longStep, byRecord, recordStep, stepOf}
+use Rattle.session.specs.Steps.{Said, Outcome, inPhase, sessionAtStart, deviceOf, answerLine, systemWith, carried, lastCounts, lastFault, withoutLine, buffersKept, versionStep, longStep, byRecord, recordStep, stepOf}
 use Rattle.runs.specs.Sessions.{Decoded, decodedFrom, decoded, Ended, start, session}
 use Rattle.runs.specs.Stepping.{endedBy, lineBefore, lineIn, systemIn, stepsFrom, StepsRead}
 use Rattle.records.specs.declared.Record.{Record}
 use Rattle.records.proofs.Choosing.{both}
 use Rattle.records.proofs.Standing.{Stands, stands, at-end, short-end, long, record-whole, record-cut}
 use Rattle.lines.proofs.Lines.{put-taken, placed-size, number-room, record-room, counts-room}
-use Rattle.runs.proofs.Sessions.{played, answerLine, followed, after, played-end, played-fault, played-from}
+use Rattle.runs.proofs.Sessions.{played, followed, after, played-end, played-fault, played-from}
 
 -- ---- what follows a step
 
@@ -73,12 +73,12 @@ module _ (xs out : List ℕ) (room : 72 ≤ length out) (b : Buffers (List ℕ))
   unfolding onward pick
   onward-carried k most r a h =
       ap
-      (λ (l : List ℕ). lineBefore l (stepsFrom k (inPhase 1 0 (deviceOf (a .system))) xs (r .next) (placed 0 (answerLine r a) out) (a .system .world .buffers)))
-      (put-taken (answerLine r a) out (omega (arith, record-room (r .number) (a .answered .number) (a .answered .byte))))
-      ∙ ap (lineBefore (answerLine r a))
+      (λ (l : List ℕ). lineBefore l (stepsFrom k (inPhase 1 0 (deviceOf (a .system))) xs (r .next) (placed 0 (answerLine r (a .answered)) out) (a .system .world .buffers)))
+      (put-taken (answerLine r (a .answered)) out (omega (arith, record-room (r .number) (a .answered .number) (a .answered .byte) (a .answered .warning))))
+      ∙ ap (lineBefore (answerLine r (a .answered)))
       (h
-      (placed 0 (answerLine r a) out)
-      (omega (arith, placed-size 0 (answerLine r a) out)))
+      (placed 0 (answerLine r (a .answered)) out)
+      (omega (arith, placed-size 0 (answerLine r (a .answered)) out)))
 
   -- what stands at a place, taken by a step
   onward-record : (k most p : ℕ) (r : Record) → Stands xs p r → (p < r .next → onward k xs (carried r (effect xs r (systemWith d b)) out) ≡ followed most xs r (effect xs r (systemWith d b))) → onward k xs (byRecord r (inPhase 1 0 d) xs out b) ≡ after most xs r (systemWith d b)

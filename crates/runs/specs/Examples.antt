@@ -1,5 +1,5 @@
--- Sessions worked out by hand, under one statement: document 01's sample, P1 of its bench sheet, each fault and cut, and a
--- memory record that wraps.
+-- Sessions worked out by hand, under one statement: document 01's sample, P1 of its bench sheet, each warning and its near
+-- misses, each fault and cut, and a memory record that wraps.
 -- Assumes nothing.
 use Prim.Native.Nat.{ℕ, zero, suc, _+_}
 use Prim.Native.Char.{code}
@@ -34,9 +34,12 @@ pub record Example : Type 0 where
 abbrev pub example : List ℕ → String → ℕ → Example
 example bytes lines fault = record { bytes = bytes; lines = lines; fault = fault; first = 0; last = 0 }
 
--- records: a port write on 006B, a port read of a port whose low byte is 6B, a grant of fewer than 256 clocks
+-- records: a port write on a port below 256, and on 006B; a port read of a port whose low byte is 6B, a grant of fewer than 256 clocks
+abbrev pub writeTo : ℕ → ℕ → List ℕ
+writeTo port byte = 0 ∷ 4 ∷ 1 ∷ 0 ∷ port ∷ byte ∷ []
+
 abbrev pub write : ℕ → List ℕ
-write byte = 0 ∷ 4 ∷ 1 ∷ 0 ∷ 0x6B ∷ byte ∷ []
+write byte = writeTo 0x6B byte
 
 abbrev pub read : ℕ → List ℕ
 read high = 0 ∷ 3 ∷ 2 ∷ high ∷ 0x6B ∷ []
@@ -66,6 +69,20 @@ examples =
     ++ read 0xFF)
     "W 0\nW 0\nW 0\nW 0\nW 0\nW 0\nW 0\nW 0\nW 0\nW 0\nW 0\nW 0\nW 0\nW 0\nW 0\nW 0\nW 3\nG 0\nR 0 1B\nR 0 04\nR 0 00\nR 0 04\nR 0 10\nR 0 04\nR 0 20\nB 16 0 0\n"
     0
+    -- AA of 10, 11 and 01, by both ports; with a parameter behind it
+    ∷ example (1 ∷ writes (0x02 ∷ 0x03 ∷ 0x01 ∷ []) ++ writeTo 0x0B 0x03) "W 0 !\nW 0 !\nW 0\nW 0 !\nB 0 0 0\n" 0
+    ∷ example (1 ∷ writes (0x0E ∷ 0x02 ∷ 0x0F ∷ 0x03 ∷ 0x0D ∷ 0x03 ∷ [])) "W 0 !\nW 0\nW 0 !\nW 0\nW 0\nW 0\nB 0 0 0\n" 0
+    -- A's timing of 11, 10, 01 and 00; B's of 11 with the prescaler 3 behind it, without one, and of 10
+    ∷ example (1 ∷ writes (0x44 ∷ 0x03 ∷ 0x44 ∷ 0x02 ∷ 0x44 ∷ 0x01 ∷ 0x44 ∷ 0x00 ∷ [])) "W 0\nW 0 !\nW 0\nW 0\nW 0\nW 0\nW 0\nW 0\nB 0 0 0\n" 0
+    ∷ example (1 ∷ writes (0x40 ∷ 0x23 ∷ 0x03 ∷ 0x40 ∷ 0xDF ∷ 0x40 ∷ 0x02 ∷ [])) "W 0\nW 0 !\nW 0\nW 0\nW 0 !\nW 0\nW 0\nB 0 0 0\n" 0
+    -- WR4's modes 00, 01, 10 and 11; 00 and 11 in its other bits
+    ∷ example (1 ∷ writes (0x81 ∷ 0xA1 ∷ 0xC1 ∷ 0xE1 ∷ 0xB1 ∷ 0xD1 ∷ [])) "W 0 !\nW 0\nW 0\nW 0 !\nW 0\nW 0\nB 0 0 0\n" 0
+    -- 03, 81 and E1 as an address, as a length and as the mask
+    ∷ example (1 ∷ writes (0x79 ∷ 0x03 ∷ 0x81 ∷ 0xE1 ∷ 0x03 ∷ 0xAD ∷ 0x81 ∷ 0x03 ∷ 0xBB ∷ 0x03 ∷ [])) "W 0\nW 0\nW 0\nW 0\nW 0\nW 0\nW 0\nW 0\nW 0\nW 0\nB 0 0 0\n" 0
+    -- WR3, WR5 and WR6 with the same bits, and bytes that select no register
+    ∷ example (1 ∷ writes (0x80 ∷ 0x82 ∷ 0x83 ∷ 0xE3 ∷ 0x86 ∷ 0xE2 ∷ [])) "W 0\nW 0\nW 0\nW 0\nW 0\nW 0\nB 0 0 0\n" 0
+    -- refused for its port, and while the bus is held
+    ∷ example (1 ∷ writeTo 0x6C 0x03 ++ writeTo 0x0B 0x87 ++ write 0x03) "W 2\nW 0\nW 3\nB 0 0 0\n" 0
     -- a wrong port, and a count of more than one digit
     ∷ example (1 ∷ 0 ∷ 3 ∷ 2 ∷ 0 ∷ 0x6C ∷ grant 200) "R 2\nG 0\nB 0 0 200\n" 0
     -- no record; no version; another version, whatever comes behind it

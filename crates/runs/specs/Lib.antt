@@ -5,4 +5,5 @@ pub mod Pieces
 pub mod Moving
 pub mod RoundTrip
 pub mod Served
+pub mod Marked
 pub mod Examples

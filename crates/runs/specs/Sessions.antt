@@ -18,9 +18,11 @@ use Rattle.rules.specs.History.{History, history, pastAtPowerOn}
 use Rattle.rules.specs.Splitting.{SplitsAt}
 use Rattle.rules.specs.Accounts.{Accounted}
 use Rattle.rules.specs.Reached.{Reached}
+use Rattle.rules.specs.Warned.{warningsOf, warningsAlong}
 use Rattle.records.specs.Records.{version, noVersion, inputEnds, recordAt}
-use Rattle.lines.specs.Lines.{recordLine, countsLine, faultLine}
+use Rattle.lines.specs.Lines.{countsLine, faultLine}
 use Rattle.session.specs.Effects.{entryOf}
+use Rattle.session.specs.Steps.{answerLine}
 use Rattle.records.specs.declared.Record.{Record}
 
 -- ---- decode: the records of a session's bytes
@@ -77,7 +79,7 @@ historyOf xs = history flat flatOutside (sessionEntries xs) (pastAtPowerOn (repl
 unfoldable pub linesOf : List Record → List Answered → List ℕ
 linesOf [] answers = []
 linesOf (r ∷ rs) [] = []
-linesOf (r ∷ rs) (a ∷ answers) = recordLine (r .number) (a .number) (a .byte) ++ linesOf rs answers
+linesOf (r ∷ rs) (a ∷ answers) = answerLine r a ++ linesOf rs answers
 
 -- the last line
 unfoldable pub lastLine : ℕ → System (List ℕ) → List ℕ
@@ -119,8 +121,9 @@ AllRead xs = (more : ℕ) → decodedFrom (more + length xs) xs 1 ≡ decodedFro
 
 -- a session is the run of its calls by definition: device and buffers at the end are the run's, the lines are those of the
 -- run's answers, in order, and the last one. So demand 3 holds of its list, and where its bytes are bytes, its device is valid
--- and its grants split
+-- and its grants split. Its warnings are those by its history
 pub record SessionRuns (xs : List ℕ) : Type 0 where
   pub accounted : Accounted (sessionEntries xs) (runOf xs) (historyOf xs)
   pub reached : AreBytes xs → Reached (runOf xs) (historyOf xs)
   pub splits : AreBytes xs → SplitsAt flat (runOf xs .system)
+  pub warnings : warningsOf (runOf xs .answers) ≡ warningsAlong flat flatOutside (sessionEntries xs) (pastAtPowerOn (replicate 65536 0) (replicate 65536 0))

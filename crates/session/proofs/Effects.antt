@@ -14,6 +14,7 @@ use Rattle.rules.specs.Choice.{pick}
 use Rattle.rules.specs.declared.Clocks.{Clocks}
 use Rattle.rules.specs.declared.Core.{Core}
 use Rattle.rules.proofs.Choice.{pick-both}
+use Rattle.rules.proofs.Warned.{warning-answered}
 use Rattle.zxndma.specs.Answers.{systemOf, writeAnswer, readAnswer, grantAnswer}
 use Rattle.zxndma.specs.declared.Device.{Device}
 use Rattle.zxndma.specs.declared.WriteAnswer.{WriteAnswer}
@@ -60,23 +61,25 @@ module _ (xs : List ℕ) (r : Record) where
     on e = enter flat flatOutside e (systemOf d m l)
 
     -- an answer beside the two buffers
-    abbrev answerOf : ℕ → ℕ → Device → Answer (List ℕ)
-    answerOf number byte next = record { answered = record { number = number; byte = byte }; system = systemOf next m l }
+    abbrev answerOf : ℕ → ℕ → ℕ → Device → Answer (List ℕ)
+    answerOf number byte warning next =
+        record { answered = record { number = number; byte = byte; warning = warning }; system = systemOf next m l }
 
     pub carried-write :
         (a : WriteAnswer) → r .number ≡ 1 → a ≡ writeAnswer (writeReply (d .core) (d .clocks) (r .word) (r .byte))
-        → answerOf (a .number) 0 (a .device) ≡ effect xs r (systemOf d m l)
+        → answerOf (a .number) 0 (a .warning) (a .device) ≡ effect xs r (systemOf d m l)
     unfolding on
     carried-write a e h =
-        (λ i. answerOf (h i .number) (sym (write-byte (d .core) (d .clocks) (r .word) (r .byte)) i) (h i .device))
+        (λ i. answerOf (h i .number) (sym (write-byte (d .core) (d .clocks) (r .word) (r .byte)) i) (h i .warning) (h i .device))
         ∙ ap on (entry-write e)
 
     pub carried-read :
         (a : ReadAnswer) → (r .number ≡ 1 → ⊥) → r .number ≡ 2 → a ≡ readAnswer (readReply (d .core) (d .clocks) (r .word))
-        → answerOf (a .number) (a .byte) (a .device) ≡ effect xs r (systemOf d m l)
+        → answerOf (a .number) (a .byte) 0 (a .device) ≡ effect xs r (systemOf d m l)
     unfolding on
     carried-read a n e h =
-        (λ i. answerOf (h i .number) (h i .byte) (h i .device)) ∙ ap on (entry-read n e)
+        (λ i. answerOf (h i .number) (h i .byte) (sym (warning-answered .read (d .core) (d .clocks) (r .word)) i) (h i .device))
+        ∙ ap on (entry-read n e)
 
     pub carried-grant : (a : GrantAnswer) (m′ l′ : List ℕ) → (r .number ≡ 1 → ⊥) → (r .number ≡ 2 → ⊥) → r .number ≡ 3 → grantAnswer a m′ l′ ≡ grant flat (systemOf d m l) (r .clocks) → grantAnswer a m′ l′ ≡ effect xs r (systemOf d m l)
     unfolding on

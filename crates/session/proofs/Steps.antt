@@ -60,7 +60,7 @@ module _ {out out′ bytes : List ℕ} {n : ℕ} {s s′ : Session} where
 pub carried-put :
     (r : Record) {out out′ m l : List ℕ} {n : ℕ} {s : Session} {a : Answer (List ℕ)} (e : Effect)
     → effectAnswer e m l ≡ a → 72 ≤ length out
-    → PutLine out (recordLine (r .number) (e .number) (e .byte)) out′ n → s ≡ inPhase 1 0 (e .device)
+    → PutLine out (recordLine (r .number) (e .number) (e .byte) (e .warning)) out′ n → s ≡ inPhase 1 0 (e .device)
     → outcome (record { progress = 0; fault = 0; next = r .next; length = n; session = s }) out′ m l ≡ carried r a out
 carried-put r {out} {out′} {m} {l} e h room p q =
     ap (λ (x : Said). record { said = x; buffers = record { memory = m; latches = l } }) (spoken-put 0 0 (r .next) room p q)
@@ -89,7 +89,7 @@ unfolding byRecord Fits
 fits-record r s xs out b =
     pick-both (λ (o : Outcome). Fits (o .said)) _ _ _ (omega arith)
     (pick-both (λ (o : Outcome). Fits (o .said)) _ _ _ (counts-room (s .device .clocks))
-    (pick-both (λ (o : Outcome). Fits (o .said)) _ _ _ (number-room 83 (r .number)) (record-room (r .number) _ _)))
+    (pick-both (λ (o : Outcome). Fits (o .said)) _ _ _ (number-room 83 (r .number)) (record-room (r .number) _ _ _)))
 
 module _ (s : Session) (xs : List ℕ) (p : ℕ) (ended : Bool) (out : List ℕ) (b : Buffers (List ℕ)) where
   step-fits : stepOf s xs p ended out b .said .step .length ≤ length out

@@ -35,4 +35,8 @@ effect xs r s = enter flat flatOutside (entryOf xs r) s
 
 -- the answer in code, with both buffers as they are left
 abbrev pub effectAnswer : Effect → List ℕ → List ℕ → Answer (List ℕ)
-effectAnswer e m l = record { answered = record { number = e .number; byte = e .byte }; system = systemOf (e .device) m l }
+effectAnswer e m l =
+    record {
+      answered = record { number = e .number; byte = e .byte; warning = e .warning };
+      system = systemOf (e .device) m l;
+    }

@@ -10,7 +10,7 @@ use lib.ListN.{length, getD}
 use Rattle.rules.specs.Choice.{pick}
 use Rattle.rules.specs.Buffers.{Buffers, placed}
 use Rattle.rules.specs.World.{System}
-use Rattle.rules.specs.Calls.{Answer}
+use Rattle.rules.specs.Calls.{Answered, Answer}
 use Rattle.zxndma.specs.Answers.{deviceAtPowerOn, systemOf}
 use Rattle.zxndma.specs.declared.Device.{Device}
 use Rattle.records.specs.Records.{version, noVersion, moreNeeded, inputEnds, cutShort, wrongRecord, recordAt, longLength}
@@ -111,12 +111,16 @@ longStep s xs p ended out =
 abbrev pub deviceOf : System (List ℕ) → Device
 deviceOf s = record { core = s .world .core; clocks = s .clocks }
 
+-- the line of a record by what it was answered
+abbrev pub answerLine : Record → Answered → List ℕ
+answerLine r a = recordLine (r .number) (a .number) (a .byte) (a .warning)
+
 -- a record that was carried out
 abbrev pub carried : Record → Answer (List ℕ) → List ℕ → Outcome
 carried r a out =
     record {
       said =
-          withLine goesOn 0 (r .next) (recordLine (r .number) (a .answered .number) (a .answered .byte)) (inPhase atRecord 0 (deviceOf (a .system))) out;
+          withLine goesOn 0 (r .next) (answerLine r (a .answered)) (inPhase atRecord 0 (deviceOf (a .system))) out;
       buffers = a .system .world .buffers;
     }
 

@@ -6,13 +6,15 @@ ghost use Rattle.zxndma.specs.Answers.{systemOf};
 ghost use Rattle.session.specs.Effects.{pokes, effectAnswer};
 ghost use Rattle.session.specs.Effects.{effect as effectOf};
 use parts::bytes;
+use parts::warning;
 use records::Record;
 use zxndma::Device;
 
-// What a record is answered with: its number, the byte of a port read, and the device afterwards.
+// What a record is answered with: its number, the byte of a port read, the warning of a port write, and the device afterwards.
 pub struct Effect {
     pub number: u8,
     pub byte: u8,
+    pub warning: u8,
     pub device: Device,
 }
 
@@ -46,6 +48,7 @@ pub fn carry_out(
         return Effect {
             number: answer.number,
             byte: 0,
+            warning: answer.warning,
             device: after,
         };
     }
@@ -55,6 +58,7 @@ pub fn carry_out(
         return Effect {
             number: answer.number,
             byte: answer.byte,
+            warning: warning::NONE,
             device: after,
         };
     }
@@ -64,6 +68,7 @@ pub fn carry_out(
         return Effect {
             number: answer.number,
             byte: 0,
+            warning: warning::NONE,
             device: after,
         };
     }
@@ -72,12 +77,14 @@ pub fn carry_out(
         return Effect {
             number: 0,
             byte: 0,
+            warning: warning::NONE,
             device,
         };
     }
     Effect {
         number: 0,
         byte: 0,
+        warning: warning::NONE,
         device,
     }
 }

@@ -176,7 +176,7 @@ fn carry(
     ensures { λ r. ⌜ outcome r (now (out .exit)) (now (memory .exit)) (now (latches .exit)) ≡ carried found (effectOf (now (input .entry)) found (systemOf device (now (memory .entry)) (now (latches .entry)))) (now (out .entry)) ⌝ }
 {
     let done = effect::carry_out(found, input, device, memory, latches);
-    let length = lines::put_record_line(found.number, done.number, done.byte, out);
+    let length = lines::put_record_line(found.number, done.number, done.byte, done.warning, out);
     let after = done.device;
     let session = in_phase(RECORDS, 0, after);
     Step {

@@ -19,9 +19,10 @@ device c k = record { core = c; clocks = k }
 abbrev pub deviceAtPowerOn : Device
 deviceAtPowerOn = device powerOn noClocks
 
--- the answer to a write: the reply's number, core and clock counts
+-- the answer to a write: the reply's number, warning, core and clock counts
 abbrev pub writeAnswer : Reply → WriteAnswer
-writeAnswer r = record { number = r .answered .number; device = device (r .core) (r .clocks) }
+writeAnswer r =
+    record { number = r .answered .number; warning = r .answered .warning; device = device (r .core) (r .clocks) }
 
 -- the answer to a read: the byte too
 abbrev pub readAnswer : Reply → ReadAnswer
@@ -35,6 +36,6 @@ speedAnswer r = record { number = r .answered .number; device = device (r .core)
 abbrev pub systemOf : Device → List ℕ → List ℕ → System (List ℕ)
 systemOf d m l = system (d .core) (record { memory = m; latches = l }) (d .clocks)
 
--- the answer to a grant, with both buffers as the call leaves them
+-- the answer to a grant, without a byte and without a warning, with both buffers as the call leaves them
 abbrev pub grantAnswer : GrantAnswer → List ℕ → List ℕ → Answer (List ℕ)
-grantAnswer r m l = record { answered = record { number = r .number; byte = 0 }; system = systemOf (r .device) m l }
+grantAnswer r m l = record { answered = record { number = r .number; byte = 0; warning = 0 }; system = systemOf (r .device) m l }

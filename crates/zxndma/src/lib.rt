@@ -25,6 +25,7 @@ use parts::power_on;
 use parts::refusal;
 use parts::slot;
 use parts::valid;
+use parts::warning;
 use registers::readback;
 use registers::register;
 use rules::Clocks;
@@ -43,6 +44,9 @@ pub struct Device {
 pub struct WriteAnswer {
     // 0 for accepted, else the refusal number: 1, 2 or 3.
     pub number: u8,
+    // 0 for none, and for a refused write. An accepted byte holds a value that programs should not use: 1 a WR0 byte with AA of
+    // 10 or 11; 2 a timing byte, A's or B's, with bits 1-0 of 11; 3 a WR4 byte with a mode, bits 6-5, of 00 or 11.
+    pub warning: u8,
     // The device afterwards.
     pub device: Device,
 }
@@ -102,7 +106,7 @@ impl Device {
     }
 
     // A byte is written to the DMA's port: the port number's low byte is 6B (zxn mode) or 0B (Zilog mode). Refused with 1, 2
-    // or 3, and then nothing changes.
+    // or 3, and then there is no warning and nothing changes.
     pub fn write(self, port: u16, byte: u8) -> WriteAnswer
         ensures { λ r. ⌜ r ≡ writeAnswer (writeReply (self .core) (self .clocks) port byte) ⌝ }
     {
@@ -110,12 +114,18 @@ impl Device {
         let clocks = self.clocks;
         let number = refusal::access_number(core, clocks, port);
         if number == 0 {
-            let next = register::write(port, byte, core);
+            let decoded = register::write(port, byte, core);
+            let next = decoded.core;
             let device = Device { core: next, clocks };
-            return WriteAnswer { number: 0, device };
+            return WriteAnswer {
+                number: 0,
+                warning: decoded.warning,
+                device,
+            };
         }
         WriteAnswer {
             number,
+            warning: warning::NONE,
             device: self,
         }
     }

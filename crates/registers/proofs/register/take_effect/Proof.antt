@@ -11,6 +11,9 @@ next-of-requires c κs = search needs
 after-requires : tie.Need-after-requires
 after-requires c κs = search needs
 
+of-requires : tie.Need-of-requires
+of-requires c κs = search needs
+
 carry-out-requires : tie.Need-carry-out-requires
 carry-out-requires c κs = search needs
 
@@ -20,8 +23,8 @@ with-pending-requires c κs = search needs
 returns : tie.Need-returns
 unfolding effectOver
 returns c =
-    simp (c .before .before .before .next-of .ensures, c .before .before .after .ensures, c .before .carry-out .ensures, c .with-pending .ensures)
+    simp (c .before .before .before .before .next-of .ensures, c .before .before .before .after .ensures, c .before .before .of .ensures, c .before .carry-out .ensures, c .with-pending .ensures)
 
 pub take-effect-spec : {M : Type 1} → statement M
 take-effect-spec =
-    tie.close (tie.spec next-of-requires after-requires carry-out-requires with-pending-requires returns)
+    tie.close (tie.spec next-of-requires after-requires of-requires carry-out-requires with-pending-requires returns)

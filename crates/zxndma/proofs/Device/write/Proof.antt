@@ -1,4 +1,4 @@
--- Where the number is 0 the core is the one written to; else it is as it came.
+-- Where the number is 0 the warning and the core are those of the write; else there is no warning, and the core is as it came.
 -- Assumes nothing.
 use Rattle.rules.specs.Choice.{pick}
 use Rattle.rules.specs.Calls.{unlessRefused, writeReplyOver}
@@ -15,7 +15,7 @@ write-requires c κs = search needs
 
 returns : tie.Need-returns
 unfolding writeReplyOver unlessRefused pick
-returns c = simp (eq-eqb _ _ (c .before .if1 .taken), ← c .before .before .access-number .ensures, c .write .ensures)
+returns c = simp (eq-eqb _ _ (c .before .before .if1 .taken), ← c .before .before .before .access-number .ensures, c .before .write .ensures)
 
 returns-2 : tie.Need-returns-2
 unfolding writeReplyOver unlessRefused pick
