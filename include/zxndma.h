@@ -127,9 +127,17 @@ typedef struct zxndma_device {
     zxndma_clocks clocks;
 } zxndma_device;
 
+/* The warnings of a port write: the byte was accepted and holds a value that programs should not use. It acts all the same,
+ * as said below. Whether it is WR0, WR4 or a timing byte goes by what was pending as it was written. */
+#define ZXNDMA_WARNING_NONE 0      /* no such value, or a refused write */
+#define ZXNDMA_WARNING_OPERATION 1 /* WR0 with bits 1-0 of 10 or 11: a transfer; use 01 */
+#define ZXNDMA_WARNING_TIMING 2    /* A timing or B timing with bits 1-0 of 11: a cycle of 4; use 00 */
+#define ZXNDMA_WARNING_MODE 3      /* WR4 with bits 6-5 of 00 or 11: continuous; use 01, or 10 for burst */
+
 /* The answer to a port write. */
 typedef struct zxndma_write_answer {
     uint8_t number;       /* 0 for accepted, else the refusal: 1, 2 or 3 */
+    uint8_t warning;      /* one of the warnings above: 0 for none, and for a refused write */
     zxndma_device device; /* the device afterwards */
 } zxndma_write_answer;
 
@@ -156,7 +164,7 @@ typedef struct zxndma_speed_answer {
 zxndma_device zxndma_power_on(void);
 
 /* A byte is written to the DMA's port. The port number's low byte is 6B (zxn mode) or 0B (Zilog mode); the high byte is
- * free. */
+ * free. An accepted byte with a discouraged value has a warning in its answer. */
 zxndma_write_answer zxndma_write(zxndma_device device, uint16_t port, uint8_t byte);
 
 /* A byte is read from the DMA's port, 6B or 0B as above. */
@@ -235,6 +243,7 @@ ZXNDMA_FIELD(device, core, 0, 52);
 ZXNDMA_FIELD(device, clocks, 56, 24);
 ZXNDMA_SIZE(device, 80);
 ZXNDMA_FIELD(write_answer, number, 0, 1);
+ZXNDMA_FIELD(write_answer, warning, 1, 1);
 ZXNDMA_FIELD(write_answer, device, 8, 80);
 ZXNDMA_SIZE(write_answer, 88);
 ZXNDMA_FIELD(read_answer, number, 0, 1);

@@ -1,7 +1,7 @@
 /* A program: embeds the zxnDMA in C, as an example to start from.
  *
- * It copies four bytes from 1000 to 2000 and reads the registers back; then it copies them at another speed.
- * docs/src/example.rs does the same in Rust; docs/src/run-examples builds both. */
+ * It copies four bytes from 1000 to 2000 and reads the registers back; it writes a discouraged value, which has a warning;
+ * then it copies the bytes at another speed. docs/src/example.rs does the same in Rust; docs/src/run-examples builds both. */
 #include <inttypes.h>
 #include <stdio.h>
 #include <stdlib.h>
@@ -11,9 +11,10 @@
 
 static const char help[] =
     "usage: example\n"
-    "Copies four bytes by the zxnDMA and reads its registers back, then copies them\n"
-    "at 3.5 MHz: an example of a program with the library target/staticlib/libhost.a\n"
-    "linked in. It prints refusals, clock counts, bytes and registers: example.out.\n"
+    "Copies four bytes by the zxnDMA and reads its registers back, writes a byte that\n"
+    "has a warning, then copies the four at 3.5 MHz: an example of a program with the\n"
+    "library target/staticlib/libhost.a linked in. It prints refusals, clock counts,\n"
+    "bytes, registers and the warning: example.out.\n"
     "Exit status: 0 done; 1 a call was refused that should not be; 2 bad arguments.\n";
 
 /* The DMA's port in zxn mode. */
@@ -28,6 +29,10 @@ static const uint8_t program[] = {
     0x82,                          /* WR5: no auto restart */
     0xCF,                          /* Load */
     0x87,                          /* Enable */
+};
+
+static const uint8_t discouraged[] = {
+    0xE1,                          /* WR4 with the mode 11; continuous, as A1 is */
 };
 
 static const uint8_t again[] = {
@@ -47,6 +52,27 @@ static void accepted(const char *call, uint8_t number)
     }
 }
 
+/* What to use in place of a discouraged value, if the byte holds one. */
+static void print_warning(uint8_t byte, uint8_t warning)
+{
+    const char *use = "";
+
+    switch (warning) {
+    case ZXNDMA_WARNING_NONE:
+        return;
+    case ZXNDMA_WARNING_OPERATION:
+        use = "WR0 with 01 in bits 1-0";
+        break;
+    case ZXNDMA_WARNING_TIMING:
+        use = "a timing byte with 00, 01 or 10 in bits 1-0";
+        break;
+    case ZXNDMA_WARNING_MODE:
+        use = "WR4 with 01 or 10 in bits 6-5";
+        break;
+    }
+    printf("write of %02X: warning %d, use %s\n", byte, warning, use);
+}
+
 /* Writes these bytes to the DMA's port. */
 static zxndma_device send(zxndma_device device, const uint8_t *bytes, size_t count)
 {
@@ -55,6 +81,7 @@ static zxndma_device send(zxndma_device device, const uint8_t *bytes, size_t cou
     for (k = 0; k < count; k++) {
         zxndma_write_answer written = zxndma_write(device, PORT, bytes[k]);
         accepted("write", written.number);
+        print_warning(bytes[k], written.warning);
         device = written.device;
     }
     return device;
@@ -111,6 +138,9 @@ static void run(void)
         device = given.device;
     }
     print_bytes("registers:", registers, sizeof registers);
+
+    /* A discouraged value is accepted and has a warning; what it does is settled all the same. */
+    device = send(device, discouraged, sizeof discouraged);
 
     /* There are four speeds, with the codes 0 to 3. */
     set = zxndma_set_speed(device, 4);

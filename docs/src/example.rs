@@ -1,8 +1,9 @@
 //! A program: embeds the zxnDMA in Rust, as an example to start from.
 //!
-//! It copies four bytes from 1000 to 2000 and reads the registers back; then it
-//! copies them at another speed. docs/src/example.c does the same in C;
-//! docs/src/run-examples builds both.
+//! It copies four bytes from 1000 to 2000 and reads the registers back; it writes
+//! a discouraged value, which has a warning; then it copies the bytes at another
+//! speed. docs/src/example.c does the same in C; docs/src/run-examples builds
+//! both.
 
 #![deny(unsafe_code)]
 
@@ -10,13 +11,14 @@
 mod zxndma;
 
 use std::process::exit;
-use zxndma::{speed, Clocks, Device, BUFFER_LENGTH};
+use zxndma::{speed, warning, Clocks, Device, BUFFER_LENGTH};
 
 const HELP: &str = "\
 usage: example
-Copies four bytes by the zxnDMA and reads its registers back, then copies them
-at 3.5 MHz: an example of a program with the library target/staticlib/libhost.a
-linked in. It prints refusals, clock counts, bytes and registers: example.out.
+Copies four bytes by the zxnDMA and reads its registers back, writes a byte that
+has a warning, then copies the four at 3.5 MHz: an example of a program with the
+library target/staticlib/libhost.a linked in. It prints refusals, clock counts,
+bytes, registers and the warning: example.out.
 Exit status: 0 done; 1 a call was refused that should not be; 2 bad arguments.
 ";
 
@@ -34,6 +36,10 @@ const PROGRAM: [u8; 16] = [
     0x87, // Enable
 ];
 
+const DISCOURAGED: [u8; 1] = [
+    0xE1, // WR4 with the mode 11; continuous, as A1 is
+];
+
 const AGAIN: [u8; 2] = [
     0xCF, // Load
     0x87, // Enable
@@ -47,11 +53,23 @@ fn accepted(call: &str, number: u8) {
     }
 }
 
+/// What to use in place of a discouraged value, if the byte holds one.
+fn print_warning(byte: u8, number: u8) {
+    let instead = match number {
+        warning::OPERATION => "WR0 with 01 in bits 1-0",
+        warning::TIMING => "a timing byte with 00, 01 or 10 in bits 1-0",
+        warning::MODE => "WR4 with 01 or 10 in bits 6-5",
+        _ => return,
+    };
+    println!("write of {:02X}: warning {}, use {}", byte, number, instead);
+}
+
 /// Writes these bytes to the DMA's port.
 fn send(mut device: Device, bytes: &[u8]) -> Device {
     for &byte in bytes {
         let written = device.write(PORT, byte);
         accepted("write", written.number);
+        print_warning(byte, written.warning);
         device = written.device;
     }
     device
@@ -110,6 +128,10 @@ fn run() {
         device = given.device;
     }
     print_bytes("registers:", &registers);
+
+    // A discouraged value is accepted and has a warning; what it does is settled
+    // all the same.
+    device = send(device, &DISCOURAGED);
 
     // There are four speeds, with the codes 0 to 3.
     let refused = device.set_speed(4);

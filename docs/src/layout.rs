@@ -2,8 +2,8 @@
 //!
 //! How the device and its answers lie in memory: every struct by its size and
 //! every field by its name, type, place in the order, offset and size. And the
-//! bits of the pending parameters and the codes of the speeds, by their names in
-//! C and Rust.
+//! numbers of the warnings, by their names; and in C and Rust the bits of the
+//! pending parameters and the codes of the speeds, by theirs.
 //!
 //! Rattle: the declarations are read, and laid out as `repr(C)` says.
 //! C: the declarations are read, and the offsets and sizes that the header
@@ -27,15 +27,17 @@ use std::mem::{size_of, size_of_val};
 use std::process::ExitCode;
 
 const HELP: &str = "\
-usage: layout HEADER RATTLE...
+usage: layout HEADER WARNINGS RATTLE...
 Compares the structs of the C header, of the Rattle sources and of the wrapper
-for Rust, and prints how many structs and fields there are, or what differs. In
-the header and the wrapper it also compares the bits of the pending parameters
-and the codes of the speeds.
+for Rust, and the warnings that each of the three names, and prints how many
+structs, fields and warnings there are, or what differs. In the header and the
+wrapper it also compares the bits of the pending parameters and the codes of the
+speeds.
 
-  HEADER  include/zxndma.h
-  RATTLE  sources with structs, in the order of their crates, the device's last:
-          crates/rules/src/lib.rt crates/zxndma/src/lib.rt
+  HEADER    include/zxndma.h
+  WARNINGS  the source with the warnings: crates/parts/src/warning.rt
+  RATTLE    sources with structs, in the order of crates, the device's last:
+            crates/rules/src/lib.rt crates/zxndma/src/lib.rt
 
 Exit status: 0 the same; 1 a difference, or a file can't be read or understood;
 2 bad arguments.
@@ -271,14 +273,14 @@ fn rust_layout() -> Layout {
         Core { a, b, block, control, status, readback, pending, enabled, slot }
     );
     struct_of!(layout, device, Device { core, clocks });
-    struct_of!(layout, device.write(0, 0), WriteAnswer { number, device });
+    struct_of!(layout, device.write(0, 0), WriteAnswer { number, warning, device });
     struct_of!(layout, device.read(0), ReadAnswer { number, byte, device });
     struct_of!(layout, device.grant(&mut [], &mut [], 0), GrantAnswer { number, device });
     struct_of!(layout, device.set_speed(0), SpeedAnswer { number, device });
     layout
 }
 
-// ---- The bits of the pending parameters, the codes of the speeds ---------
+// ---- Bits of the pending parameters, codes of the speeds, warnings -------
 
 /// Names and numbers, in their order.
 type Names = Vec<(String, u16)>;
@@ -293,23 +295,48 @@ macro_rules! names_of {
 /// The numbers that the header defines, under names that begin so; the rest of
 /// the name is kept.
 fn c_names(header: &str, begin: &str) -> Result<Names, String> {
-    let begin = format!("#define {}", begin);
-    let defined = header.lines().filter_map(|line| line.strip_prefix(&begin));
     let named = |text: &str| {
-        let (name, number) = text.split_once(' ')?;
-        Some((name.into(), number.parse().ok()?))
+        let (name, number) = text.split(C.comment).next()?.split_once(' ')?;
+        Some((name.into(), number.trim_end().parse().ok()?))
     };
-    defined.map(|text| named(text).ok_or(format!("not understood: {}", text))).collect()
+    names(header, &format!("#define {}", begin), named)
 }
 
-/// Both have the same names, in the same order, and the numbers in this order.
-/// Gives how many.
-fn same_names(what: &str, c: Names, rust: Names, number: fn(u16) -> u16) -> Result<usize, String> {
-    let in_order = (0..).zip(&rust).all(|(place, (_, named))| *named == number(place));
-    if c != rust || !in_order {
-        return Err(format!("{} in C: {:?}\nin Rust: {:?}", what, c, rust));
+/// The numbers that a Rattle source names for others.
+fn rattle_names(source: &str) -> Result<Names, String> {
+    let named = |text: &str| {
+        let (declared, number) = text.strip_suffix(';')?.split_once(" = ")?;
+        let (name, _) = declared.split_once(": ")?;
+        Some((name.into(), number.parse().ok()?))
+    };
+    names(source, "pub const ", named)
+}
+
+/// What the lines name that begin so. One that isn't understood is an error.
+fn names(
+    source: &str,
+    begin: &str,
+    named: impl Fn(&str) -> Option<(String, u16)>,
+) -> Result<Names, String> {
+    let found = source.lines().filter_map(|line| Some((line, line.strip_prefix(begin)?)));
+    found.map(|(line, rest)| named(rest).ok_or(format!("not understood: {}", line))).collect()
+}
+
+/// All languages have the same names, in the same order, and the numbers in this
+/// order. Gives how many.
+fn same_names<const N: usize>(
+    what: &str,
+    languages: [(&str, Names); N],
+    number: fn(u16) -> u16,
+) -> Result<usize, String> {
+    let (_, first) = &languages[0];
+    let in_order = (0..).zip(first).all(|(place, (_, named))| *named == number(place));
+    if !in_order || languages.iter().any(|(_, names)| names != first) {
+        let line =
+            |(language, names): &(&str, Names)| format!("{} in {}: {:?}", what, language, names);
+        return Err(languages.iter().map(line).collect::<Vec<_>>().join("\n"));
     }
-    Ok(rust.len())
+    Ok(first.len())
 }
 
 /// Each is the bit after the one before it, from bit 0 on.
@@ -326,7 +353,8 @@ fn same_bits(header: &str) -> Result<usize, String> {
         B_ADDRESS_HIGH,
         READ_MASK
     );
-    same_names("pending parameters", c_names(header, "ZXNDMA_PENDING_")?, rust, |place| 1 << place)
+    let c = c_names(header, "ZXNDMA_PENDING_")?;
+    same_names("pending parameters", [("C", c), ("Rust", rust)], |place| 1 << place)
 }
 
 /// Each is one more than the one before it, from 0 on. What C calls `7_MHZ` is
@@ -338,7 +366,15 @@ fn same_codes(header: &str) -> Result<usize, String> {
         None => (name, code),
     };
     let c = c_names(header, "ZXNDMA_SPEED_")?.into_iter().map(turned).collect();
-    same_names("speeds", c, rust, |place| place)
+    same_names("speeds", [("C", c), ("Rust", rust)], |place| place)
+}
+
+/// Each is one more than the one before it, from 0 on, which is none.
+fn same_warnings(header: &str, source: &str) -> Result<usize, String> {
+    let rattle = rattle_names(source)?;
+    let c = c_names(header, "ZXNDMA_WARNING_")?;
+    let rust = names_of!(warning: NONE, OPERATION, TIMING, MODE);
+    same_names("warnings", [("Rattle", rattle), ("C", c), ("Rust", rust)], |place| place)
 }
 
 // ---- Comparing -----------------------------------------------------------
@@ -360,7 +396,7 @@ fn differences(rattle: &Layout, language: &str, other: &Layout) -> Vec<String> {
 }
 
 /// The line to print, if all is the same, or those that say what is not.
-fn compare(header: &str, sources: &[&str]) -> Result<String, String> {
+fn compare(header: &str, warnings: &str, sources: &[&str]) -> Result<String, String> {
     let texts: Result<Vec<String>, String> = sources.iter().map(|path| text(path)).collect();
     let rattle = rattle_layout(&texts?)?;
     let header = text(header)?;
@@ -370,12 +406,14 @@ fn compare(header: &str, sources: &[&str]) -> Result<String, String> {
         return Err(lines.join("\n"));
     }
     let fields: usize = rattle.values().map(|laid| laid.fields.len()).sum();
+    let warnings = same_warnings(&header, &text(warnings)?)?;
     let (bits, codes) = (same_bits(&header)?, same_codes(&header)?);
     Ok(format!(
-        "{} structs, {} fields: the same in Rattle, C and Rust; {} bits of pending parameters, \
-         {} codes of speeds: the same in C and Rust",
+        "{} structs, {} fields, {} numbers of warnings: the same in Rattle, C and Rust; \
+         {} bits of pending parameters, {} codes of speeds: the same in C and Rust",
         rattle.len(),
         fields,
+        warnings,
         bits,
         codes
     ))
@@ -387,10 +425,12 @@ fn text(path: &str) -> Result<String, String> {
 
 fn main() -> ExitCode {
     program::main("layout", HELP, |words| match words {
-        [header, sources @ ..] if !sources.is_empty() => {
-            println!("layout: {}", compare(header, sources).map_err(|lines| (1, lines))?);
+        [header, warnings, sources @ ..] if !sources.is_empty() => {
+            println!("layout: {}", compare(header, warnings, sources).map_err(|lines| (1, lines))?);
             Ok(())
         }
-        _ => Err(program::bad_usage("a header and Rattle sources are needed".into())),
+        _ => Err(program::bad_usage(
+            "a header, the source of the warnings and Rattle sources are needed".into(),
+        )),
     })
 }

@@ -194,12 +194,28 @@ pub struct Device {
     pub clocks: Clocks,
 }
 
+/// The warnings of a port write: the byte was accepted and holds a value that
+/// programs should not use. It acts all the same, as said below. Whether it is
+/// WR0, WR4 or a timing byte goes by what was pending as it was written.
+pub mod warning {
+    /// No such value, or a refused write.
+    pub const NONE: u8 = 0;
+    /// WR0 with bits 1-0 of 10 or 11: a transfer. Use 01.
+    pub const OPERATION: u8 = 1;
+    /// A timing or B timing with bits 1-0 of 11: a cycle of 4. Use 00.
+    pub const TIMING: u8 = 2;
+    /// WR4 with bits 6-5 of 00 or 11: continuous. Use 01, or 10 for burst.
+    pub const MODE: u8 = 3;
+}
+
 /// The answer to a port write.
 #[repr(C)]
 #[derive(Clone, Copy, PartialEq, Eq, Debug)]
 pub struct WriteAnswer {
     /// 0 for accepted, else the refusal number: 1, 2 or 3.
     pub number: u8,
+    /// One of those in `warning`: 0 for none, and for a refused write.
+    pub warning: u8,
     /// The device afterwards.
     pub device: Device,
 }
@@ -277,7 +293,8 @@ impl Device {
     }
 
     /// A byte is written to the DMA's port: the port number's low byte is 6B
-    /// (zxn mode) or 0B (Zilog mode). Refused with 1, 2 or 3.
+    /// (zxn mode) or 0B (Zilog mode). An accepted byte with a discouraged value
+    /// has a warning in its answer. Refused with 1, 2 or 3.
     pub fn write(self, port: u16, byte: u8) -> WriteAnswer {
         // SAFETY: plain data goes over by value; a Rust bool is 0 or 1.
         unsafe { zxndma_write(self, port, byte) }
