@@ -24,21 +24,25 @@ mod stops;
 mod stored;
 #[path = "waits.rs"]
 mod waits;
+#[path = "warnings.rs"]
+mod warnings;
 
 use generate::Rng;
 use numbers::Numbers;
 use program::Failure;
 use reference::model::Device;
-use reference::session::{self, Watch};
+use reference::session::{self, Call, Watch};
 use std::process::{ExitCode, Output};
 use std::time::{SystemTime, UNIX_EPOCH};
 use waits::Waits;
+use warnings::Warnings;
 
 const HELP: &str = "\
 usage: compare BENCH SEED COUNT [FILE ...]
 Runs the program BENCH on sessions and compares what it writes with the lines
-of the second program. Prints the seed, what writes in burst waits came to, how
-many numbers of pending parameters came, and how many lines of each shape.
+of the second program. Prints the seed, what writes in burst waits came to, which
+warnings and which bytes close to one came, how many numbers of pending parameters,
+and how many lines of each shape.
 
   BENCH  the bench program: a session on standard input, lines on the output
   SEED   a number, or `date` for the days since 1970-01-01
@@ -47,12 +51,14 @@ many numbers of pending parameters came, and how many lines of each shape.
 
 Exit status: 0 all agree; 1 a difference, or the second program stops, which is
 shown with the session shortened as far as it still does so, or, with a COUNT of
-1000 or more, a shape of line, a case of a write in a wait or a number of pending
-parameters that never came; 2 bad arguments, or BENCH or a FILE can't be used.
+1000 or more, a shape of line, a case of a write in a wait or of a warning, or a
+number of pending parameters that never came; 2 bad arguments, or BENCH or a FILE
+can't be used.
 ";
 
 /// From this many sessions on every shape of line must have come, every case of
-/// a write in a wait, and every number of pending parameters that is valid.
+/// a write in a wait and of a warning, and every number of pending parameters that
+/// is valid.
 const ENOUGH: u64 = 1_000;
 
 // ---- Arguments -----------------------------------------------------------
@@ -206,7 +212,7 @@ impl Differing<'_> {
     /// Takes the parts instead of those kept, if they still differ.
     fn try_parts(&mut self, parts: Vec<Vec<u8>>) -> Result<bool, Failure> {
         self.tries -= 1;
-        let (_, difference) = self.bench.judge(&parts.concat(), &mut |_, _, _| {})?;
+        let (_, difference) = self.bench.judge(&parts.concat(), &mut |_, _, _, _| {})?;
         let differs = difference.is_some();
         if let Some(difference) = difference {
             self.parts = parts;
@@ -332,8 +338,9 @@ fn report(name: &str, session: &[u8], bench: Bench, difference: String) -> Resul
 
 /// The shapes that lines can have here: the books never fill (6), and the
 /// bench program lends buffers of the right size (4, 5) to a sound device (1).
-const SHAPES: [&str; 12] =
-    ["W 0", "W 2", "W 3", "R 0", "R 2", "R 3", "G 0", "M 0", "B", "S 20", "S 21", "S 22"];
+/// A line has the first of them that it starts with.
+const SHAPES: [&str; 13] =
+    ["W 0 !", "W 0", "W 2", "W 3", "R 0", "R 2", "R 3", "G 0", "M 0", "B", "S 20", "S 21", "S 22"];
 
 /// What was compared.
 #[derive(Default)]
@@ -369,8 +376,27 @@ fn compare(name: &str, session: &[u8], bench: Bench, watch: Watch) -> Result<Vec
 /// What the devices of the sessions came to, in the second program.
 struct Watched {
     waits: Waits,
+    /// Of each write.
+    warnings: Warnings,
     /// After each accepted call.
     numbers: Numbers,
+}
+
+impl Watched {
+    fn new() -> Watched {
+        let (waits, numbers) = (Waits::new(), Numbers::new());
+        Watched { waits, warnings: Warnings::of_sessions(), numbers }
+    }
+
+    fn count(&mut self, before: &Device, call: Call, number: u8, after: &Device) {
+        if let Call::Write { port, byte } = call {
+            self.warnings.count(before, port, byte, number);
+        }
+        if number == 0 {
+            self.waits.count(before, call, after);
+            self.numbers.count(&after.pending);
+        }
+    }
 }
 
 /// The sessions of the seed. Numbered from 1, so that COUNT reaches a session
@@ -383,9 +409,8 @@ fn compare_random(arguments: &Arguments, watched: &mut Watched) -> Result<Tally,
         let pieces = if rng.chance(1, 4) { Some(rng.next()) } else { None };
         let bench = Bench { program: &arguments.bench, pieces };
         let name = format!("session {number} of seed {}", arguments.seed);
-        let mut watch = |before: &Device, call, after: &Device| {
-            watched.waits.count(before, call, after);
-            watched.numbers.count(&after.pending);
+        let mut watch = |before: &Device, call, number, after: &Device| {
+            watched.count(before, call, number, after);
         };
         tally.add(&compare(&name, &session, bench, &mut watch)?);
     }
@@ -396,17 +421,21 @@ fn compare_all(arguments: &Arguments) -> Result<String, Failure> {
     for file in &arguments.files {
         let session = stored::session(file).map_err(|text| (2, text))?;
         let bench = Bench { program: &arguments.bench, pieces: None };
-        compare(file, &session, bench, &mut |_, _, _| {})?;
+        compare(file, &session, bench, &mut |_, _, _, _| {})?;
     }
     // Without the stored ones: what is made has to come to everything alone.
-    let mut watched = Watched { waits: Waits::new(), numbers: Numbers::new() };
+    let mut watched = Watched::new();
     let tally = compare_random(arguments, &mut watched)?;
-    let Watched { waits, numbers } = watched;
+    let Watched { waits, warnings, numbers } = watched;
     println!("{}", waits.summary("waits"));
+    println!("{}", warnings.summary("warnings"));
     println!("{}", numbers.summary("pending parameters"));
     if arguments.count >= ENOUGH {
         if let Some(missing) = waits.missing() {
             return Err((1, format!("no session came to this in a burst wait: {missing}")));
+        }
+        if let Some(missing) = warnings.missing() {
+            return Err((1, format!("no session came to this of a warning: {missing}")));
         }
         if let Some(missing) = numbers.missing() {
             return Err((1, format!("no session came to these pending parameters: {missing}")));

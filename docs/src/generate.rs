@@ -143,25 +143,27 @@ fn address(rng: &mut Rng) -> u16 {
     rng.pick_or(&FEW, Rng::word)
 }
 
-/// Mostly short; some go past a byte, and some don't end.
+/// Mostly short; some go past a byte, and some don't end. 81 would have a warning
+/// as a register's byte.
 fn length(rng: &mut Rng) -> u16 {
     match rng.below(16) {
         0..=5 => rng.below(6) as u16,
         6..=11 => rng.below(40) as u16,
         12 => rng.pick(&[0x00FE, 0x00FF, 0x0100, 0x0101]),
         13 => rng.between(200, 900) as u16,
-        14 => rng.pick(&[0xFFFE, 0xFFFF]),
+        14 => rng.pick(&[0x8181, 0xFFFE, 0xFFFF]),
         _ => rng.word(),
     }
 }
 
+/// Some would have a warning if they were a register's byte or a timing.
 fn prescaler(rng: &mut Rng) -> u8 {
     match rng.below(8) {
         0 => 0,
         1..=3 => 1,
-        4 => 2,
+        4 => rng.pick(&[2, 2, 3]),
         5 => 55,
-        6 => 255,
+        6 => rng.pick(&[0x81, 255]),
         _ => rng.byte(),
     }
 }
@@ -545,7 +547,12 @@ impl Plan {
         }
         groups.push(self.wr1());
         groups.push(self.wr2());
-        groups.push(self.wr4(rng, WR4_ALL));
+        // So for WR4.
+        let first = if rng.chance(1, 4) { rng.below(4) as u8 } else { WR4_ALL };
+        groups.push(self.wr4(rng, first));
+        if first != WR4_ALL {
+            groups.push(self.wr4(rng, WR4_ALL & !first));
+        }
         groups.push(self.wr5(rng));
         if rng.chance(1, 4) {
             groups.push(read_mask(rng));
@@ -658,11 +665,14 @@ fn vary(rng: &mut Rng, groups: &mut Vec<Vec<u8>>) {
 // ---- Parts of a session --------------------------------------------------
 
 /// Some bytes on the plan's port; now and then the host changes the port, and
-/// with it the mode, in between.
+/// with it the mode, in between, or sends a byte to another port first.
 fn write_all(rng: &mut Rng, session: &mut Session, plan: &mut Plan, bytes: &[u8]) {
     for &byte in bytes {
         if rng.chance(1, 60) {
             plan.zilog = !plan.zilog;
+        }
+        if rng.chance(1, 80) {
+            session.write(other_port(rng), byte);
         }
         session.write(dma_port(rng, plan.zilog), byte);
     }
@@ -1030,6 +1040,21 @@ fn write_change(rng: &mut Rng, session: &mut Session, plan: &mut Plan) {
     }
 }
 
+/// In a wait that ends after so many clocks: a register whose timing, most often
+/// 11, comes when the next slot holds the bus, and again in that slot's wait.
+fn write_timing_late(rng: &mut Rng, session: &mut Session, plan: &mut Plan, left: u32) {
+    let bus = plan.bus_time();
+    let discouraged = rng.pick(&[0, 0b11]);
+    let side = Side { timing: Some(rng.byte() | discouraged), ..Side::random(rng) };
+    let bytes = if rng.chance(1, 2) { plan.change_a(side) } else { plan.change_b(side) };
+    let (register, parameters) = bytes.split_at(1);
+    write_all(rng, session, plan, register);
+    session.grant(left + rng.below(bus));
+    write_all(rng, session, plan, parameters);
+    session.grant(bus);
+    write_all(rng, session, plan, parameters);
+}
+
 /// Anything a host may do next, whatever the device is doing.
 fn act(rng: &mut Rng, session: &mut Session, plan: &mut Plan) {
     match rng.below(20) {
@@ -1086,8 +1111,11 @@ fn burst_waits(rng: &mut Rng) -> Session {
     fill_memory(rng, &mut session, &plan);
     program(rng, &mut session, &mut plan, false);
     // Into the wait of one of the first slots.
-    let wait = plan.slot() - plan.bus_time();
-    session.grant(plan.slot() * rng.below(3) + plan.bus_time() + rng.below(wait));
+    let left = rng.between(1, plan.slot() - plan.bus_time());
+    session.grant(plan.slot() * rng.between(1, 3) - left);
+    if rng.chance(1, 3) {
+        write_timing_late(rng, &mut session, &mut plan, left);
+    }
     for _ in 0..rng.between(1, 6) {
         write_change(rng, &mut session, &mut plan);
         if rng.chance(1, 2) {

@@ -566,7 +566,8 @@ fn transferring(b_timing: &[u8], wr4: u8) -> model::Device {
     let bytes = [&registers, b_timing, &[wr4, 0x00, 0x20, 0xA2, 0xCF, 0x87]].concat();
     let mut device = model::power_on();
     for byte in bytes {
-        assert_eq!(model::write(&mut device, PORT, byte), 0, "the bus is free until the last byte");
+        let (number, _) = model::write(&mut device, PORT, byte);
+        assert_eq!(number, 0, "the bus is free until the last byte");
     }
     device
 }
@@ -623,7 +624,8 @@ impl Side for Library {
 impl Side for model::Device {
     #[inline(never)]
     fn write(&mut self, byte: u8) -> u8 {
-        model::write(self, PORT, byte)
+        let (number, _) = model::write(self, PORT, byte);
+        number
     }
 
     #[inline(never)]

@@ -37,6 +37,13 @@ pub mod model {
     /// What `register` gives for the bytes that select none.
     pub const NO_REGISTER: u8 = 7;
 
+    // The warnings, in the order of 02, whose word is mark: a byte has a
+    // discouraged value.
+    pub const NO_WARNING: u8 = 0;
+    pub const AA_WARNING: u8 = 1;
+    pub const TIMING_WARNING: u8 = 2;
+    pub const MODE_WARNING: u8 = 3;
+
     /// Port A or port B.
     #[derive(Clone, Copy, PartialEq, Eq, Debug)]
     pub struct Port {
@@ -341,12 +348,14 @@ pub mod model {
         }
     }
 
-    /// A byte written to a port; gives the number.
-    pub fn write(d: &mut Device, port: u16, byte: u8) -> u8 {
+    /// A byte written to a port; gives the number and the warning.
+    pub fn write(d: &mut Device, port: u16, byte: u8) -> (u8, u8) {
         let number = port_refusal(d, port);
         if number != 0 {
-            return number;
+            return (number, NO_WARNING);
         }
+        // What the byte is goes by what is awaited before it takes effect.
+        let warning = warning(d, byte);
         // The port's low byte sets the mode, before the byte takes effect.
         d.zilog = port & 0x00FF == 0x0B;
         if d.pending.next() != 0 {
@@ -354,7 +363,50 @@ pub mod model {
         } else {
             base(d, byte);
         }
-        0
+        (0, warning)
+    }
+
+    /// 02: the mark that decoding a byte answers. It changes nothing of what
+    /// the byte does.
+    pub fn warning(d: &Device, byte: u8) -> u8 {
+        match d.pending.next() {
+            // No parameter awaited: the byte selects a register, or none.
+            0 => match register(byte) {
+                0 => aa_warning(byte),
+                4 => mode_warning(byte),
+                _ => NO_WARNING,
+            },
+            A_TIMING => timing_warning(byte),
+            B_TIMING => timing_warning(byte),
+            // Another parameter.
+            _ => NO_WARNING,
+        }
+    }
+
+    /// Of a WR0 byte: AA of 10 or 11.
+    fn aa_warning(byte: u8) -> u8 {
+        match byte & 0b0000_0011 {
+            0b10 => AA_WARNING,
+            0b11 => AA_WARNING,
+            _ => NO_WARNING,
+        }
+    }
+
+    /// Of a timing byte: bits 1-0 of 11.
+    fn timing_warning(byte: u8) -> u8 {
+        match byte & 0b0000_0011 {
+            0b11 => TIMING_WARNING,
+            _ => NO_WARNING,
+        }
+    }
+
+    /// Of a WR4 byte: bits 6-5 of 00 or 11.
+    fn mode_warning(byte: u8) -> u8 {
+        match (byte >> 5) & 0b11 {
+            0b00 => MODE_WARNING,
+            0b11 => MODE_WARNING,
+            _ => NO_WARNING,
+        }
     }
 
     /// 01's table: the register, 0 to 6, that a byte selects, or none.
@@ -712,7 +764,7 @@ pub mod session {
     const GRANT: u8 = 3;
     const MEMORY: u8 = 4;
 
-    /// A call of a session that was accepted.
+    /// A call of a session.
     #[derive(Clone, Copy)]
     pub enum Call {
         Write { port: u16, byte: u8 },
@@ -720,15 +772,15 @@ pub mod session {
         Grant { clocks: u32 },
     }
 
-    /// Is shown an accepted call, with the device before it and after it.
-    pub type Watch<'a> = &'a mut dyn FnMut(&Device, Call, &Device);
+    /// Is shown a call and its number, with the device before it and after it.
+    pub type Watch<'a> = &'a mut dyn FnMut(&Device, Call, u8, &Device);
 
     /// The lines that a whole session writes.
     pub fn run(session: &[u8]) -> Vec<u8> {
-        run_watched(session, &mut |_, _, _| {})
+        run_watched(session, &mut |_, _, _, _| {})
     }
 
-    /// As `run`; every accepted call is shown.
+    /// As `run`; every call is shown, refused ones too.
     pub fn run_watched(session: &[u8], watch: Watch) -> Vec<u8> {
         let mut lines = String::new();
         match records(session, &mut lines, watch) {
@@ -766,16 +818,16 @@ pub mod session {
             match *record {
                 [WRITE, high, low, byte] => {
                     let port = word(high, low);
-                    let number = model::write(&mut device, port, byte);
-                    if number == 0 {
-                        watch(&before, Call::Write { port, byte }, &device);
-                    }
-                    lines.push_str(&format!("W {}\n", number));
+                    let (number, warning) = model::write(&mut device, port, byte);
+                    watch(&before, Call::Write { port, byte }, number, &device);
+                    // 02: a space and an exclamation mark where there is a mark.
+                    let mark = if warning != model::NO_WARNING { " !" } else { "" };
+                    lines.push_str(&format!("W {}{}\n", number, mark));
                 }
                 [READ, high, low] => {
                     let (number, byte) = model::read(&mut device, word(high, low));
+                    watch(&before, Call::Read, number, &device);
                     if number == 0 {
-                        watch(&before, Call::Read, &device);
                         lines.push_str(&format!("R 0 {:02X}\n", byte));
                     } else {
                         lines.push_str(&format!("R {}\n", number));
@@ -784,9 +836,7 @@ pub mod session {
                 [GRANT, b3, b2, b1, b0] => {
                     let clocks = u32::from_be_bytes([b3, b2, b1, b0]);
                     let number = model::grant(&mut device, &mut memory, &mut latches, clocks);
-                    if number == 0 {
-                        watch(&before, Call::Grant { clocks }, &device);
-                    }
+                    watch(&before, Call::Grant { clocks }, number, &device);
                     lines.push_str(&format!("G {}\n", number));
                 }
                 [MEMORY, high, low, ref bytes @ ..] if (1..=255).contains(&bytes.len()) => {

@@ -2,13 +2,14 @@
 //!
 //! On devices of any content, with any port, byte, clocks, buffers and speed
 //! code, on sessions, and on lists of calls from power on that set the speed as
-//! well. Every answer is compared whole: number, byte, each field of the device,
-//! and after a grant both buffers, in a session after every record. The sessions
-//! of a seed are those that `compare.rs` makes of it. What the grants, the writes
-//! in burst waits and the speed calls came to is counted, and so are the numbers
-//! of pending parameters that came. It also tries all 65,536 of these, all codes
-//! of the speed and a slot's figures about all that are valid, and sees that the
-//! second program stops where a slot would begin with its block finished.
+//! well. Every answer is compared whole: number, byte, warning, each field of the
+//! device, and after a grant both buffers, in a session after every record. The
+//! sessions of a seed are those that `compare.rs` makes of it. What the grants, the
+//! writes in burst waits and the speed calls came to is counted, and so are the
+//! warnings and the numbers of pending parameters that came. It also tries all
+//! 65,536 of these, every byte with those that are valid, all codes of the speed
+//! and a slot's figures about all that are valid, and sees that the second program
+//! stops where a slot would begin with its block finished.
 //!
 //! Built by `rustc --edition 2021 -O -L native=target/staticlib states.rs`,
 //! from this folder or with its path; `states --help` says how it is run.
@@ -35,6 +36,8 @@ mod stops;
 mod stored;
 #[path = "waits.rs"]
 mod waits;
+#[path = "warnings.rs"]
+mod warnings;
 #[path = "../../rust/zxndma/src/lib.rs"]
 mod zxndma;
 
@@ -47,6 +50,7 @@ use speeds::Speeds;
 use std::collections::BTreeSet;
 use std::process::ExitCode;
 use waits::Waits;
+use warnings::Warnings;
 use zxndma::{Block, Clocks, Control, Core, Device, Port, Readback, Slot, Status};
 
 /// For each seed, if nothing else is asked for.
@@ -60,12 +64,14 @@ Compares the linked library with the second program, for each seed (1) by N call
 on made devices (1000000), N made sessions (5000) and N lists of calls from power
 on that set the speed as well (2000), and on the stored sessions. Prints how often
 each number was answered, what the grants, the writes in burst waits and the speed
-calls came to, and how many numbers of pending parameters came.
+calls came to, which warnings and which bytes close to one came, and how many
+numbers of pending parameters.
 
 For each seed it tries, on devices that are valid otherwise:
 - all 65536 numbers of pending parameters: a call must answer 1 exactly where the
   number stands for no sequence; each byte is written to a device with each other
-  number;
+  number, by both ports: as many writes as the rules allow must have each warning;
+  and again where it must be refused with 1, 2 or 3 and have none;
 - each speed code in a device with each: the answer must be 1 where the device's
   is above 3, else 7 where the call's is, else 0;
 - bus times up to 70 with lengths up to 8300 in a running slot: as many as the
@@ -76,8 +82,8 @@ finished, and that a clock of it stops the second program.
 Exit status: 0 no difference; 1 a difference, or the second program stops in a
 call or doesn't where it should, which is shown, or a number that a call can
 answer never came, or, with as many calls, sessions or lists as these, some case
-of a long grant, of a write in a wait or of a speed call, or a number of pending
-parameters, or a FILE can't be read; 2 bad arguments.
+of a long grant, of a write in a wait, of a warning or of a speed call, or a number
+of pending parameters, or a FILE can't be read; 2 bad arguments.
 ";
 
 // ---- Both sides ----------------------------------------------------------
@@ -175,6 +181,7 @@ impl Call {
 struct Answer {
     number: u8,
     byte: u8,
+    warning: u8,
     device: model::Device,
     /// The device's number of pending parameters; in `device` it is a sequence.
     pending: u16,
@@ -218,10 +225,13 @@ impl Buffers {
 
 /// The library's answer, and its device as it came.
 fn by_library(device: Device, call: Call, lent: &mut Buffers) -> (Answer, Device) {
+    // Only a write answers one.
+    let mut warning = zxndma::warning::NONE;
     let (number, byte, device) = match call {
         Call::PowerOn => (0, 0, Device::power_on()),
         Call::Write { port, byte } => {
             let written = device.write(port, byte);
+            warning = written.warning;
             (written.number, 0, written.device)
         }
         Call::Read { port } => {
@@ -240,17 +250,22 @@ fn by_library(device: Device, call: Call, lent: &mut Buffers) -> (Answer, Device
         Call::Valid => (u8::from(device.is_valid()), 0, device),
     };
     let pending = device.core.pending;
-    (Answer { number, byte, device: model_of(device), pending }, device)
+    (Answer { number, byte, warning, device: model_of(device), pending }, device)
 }
 
 fn by_model(device: Device, call: Call, lent: &mut Buffers) -> Answer {
     let mut device = model_of(device);
+    let mut warning = model::NO_WARNING;
     let (number, byte) = match call {
         Call::PowerOn => {
             device = model::power_on();
             (0, 0)
         }
-        Call::Write { port, byte } => (model::write(&mut device, port, byte), 0),
+        Call::Write { port, byte } => {
+            let (number, answered) = model::write(&mut device, port, byte);
+            warning = answered;
+            (number, 0)
+        }
         Call::Read { port } => model::read(&mut device, port),
         Call::Grant { memory, latches, clocks } => {
             let (memory, latches) = (&mut lent.memory[..memory], &mut lent.latches[..latches]);
@@ -260,7 +275,7 @@ fn by_model(device: Device, call: Call, lent: &mut Buffers) -> Answer {
         Call::Valid => (u8::from(model::valid(&device)), 0),
     };
     let pending = device.pending.number();
-    Answer { number, byte, device, pending }
+    Answer { number, byte, warning, device, pending }
 }
 
 // ---- Comparing -----------------------------------------------------------
@@ -330,6 +345,8 @@ struct Bench {
     grants: Grants,
     /// What accepted writes in burst waits came to.
     waits: Waits,
+    /// Of each write.
+    warnings: Warnings,
     /// The numbers of pending parameters: before and after accepted calls those
     /// that stand for a sequence, before refused ones the others.
     numbers: Numbers,
@@ -345,14 +362,15 @@ impl Bench {
             counts: Counts::default(),
             grants: Grants::of_sessions(),
             waits: Waits::new(),
+            warnings: Warnings::of_sessions(),
             numbers: Numbers::new(),
             speeds: Speeds::of_lists(),
         }
     }
 
     /// What the calls come to from here on.
-    fn count_anew(&mut self, grants: Grants, speeds: Speeds) {
-        (self.grants, self.speeds) = (grants, speeds);
+    fn count_anew(&mut self, grants: Grants, warnings: Warnings, speeds: Speeds) {
+        (self.grants, self.warnings, self.speeds) = (grants, warnings, speeds);
         (self.waits, self.numbers) = (Waits::new(), Numbers::new());
     }
 
@@ -400,6 +418,9 @@ impl Bench {
         }
         self.counts.of(call)[usize::from(model.number)] += 1;
         let before = model_of(device);
+        if let Call::Write { port, byte } = call {
+            self.warnings.count(&before, port, byte, model.number);
+        }
         if let (Some(accepted), 0) = (call.of_session(), model.number) {
             self.waits.count(&before, accepted, &model.device);
             self.numbers.count(&before.pending);
@@ -1206,7 +1227,8 @@ fn numbers_of_sequences() -> Result<BTreeSet<u16>, String> {
 
 /// Tries each number once, in a device that is valid otherwise: where it stands
 /// for no sequence the calls refuse it with 1 and change nothing, and elsewhere
-/// they don't answer 1. To those every byte is written.
+/// they don't answer 1. To those every byte is written, in writes that are
+/// accepted and in others that are refused.
 fn every_number(bench: &mut Bench, seed: u64) -> Result<(), String> {
     let mut rng = Rng::new(seed);
     let of_sequences = numbers_of_sequences()?;
@@ -1240,19 +1262,39 @@ fn every_number(bench: &mut Bench, seed: u64) -> Result<(), String> {
     let writes = every_byte(bench, &mut rng, &of_sequences).map_err(place)?;
     println!(
         "states: seed {}: each number of pending parameters: {} valid, {} refused with 1; \
-         {} writes, of each byte to each valid one by both ports",
+         {} writes, of each byte to each valid one by both ports, warnings {:?}; \
+         {} refused with 1, 2 and 3, without one",
         seed,
         of_sequences.len(),
         refused,
-        writes
+        writes.accepted,
+        writes.warnings,
+        writes.refused
     );
     Ok(())
 }
 
-/// Writes each byte by each port to a device with each of these numbers. Gives
-/// how many writes there were; all must be accepted.
-fn every_byte(bench: &mut Bench, rng: &mut Rng, numbers: &BTreeSet<u16>) -> Result<u32, String> {
-    let mut writes = 0;
+/// How many of the writes by both ports have no warning and each of the three.
+/// With no parameter awaited, 32 x 2 bytes are WR0 with AA of 10 or 11 and 8 x 2
+/// are WR4 with mode 00 or 11; 64 bytes have a timing of 11, A's and B's.
+const WRITES_BY_WARNING: [u32; 4] = {
+    let (aa, timing, mode) = (2 * (32 * 2), 2 * (64 * 2), 2 * (8 * 2));
+    [2 * 256 * SEQUENCES as u32 - aa - timing - mode, aa, timing, mode]
+};
+
+/// What the writes of each byte came to.
+#[derive(Default)]
+struct Writes {
+    accepted: u32,
+    /// How many of these have each warning.
+    warnings: [u32; 4],
+    refused: u32,
+}
+
+/// Writes each byte by each port to a device with each of these numbers. All
+/// must be accepted. Then so that each must be refused, without a warning.
+fn every_byte(bench: &mut Bench, rng: &mut Rng, numbers: &BTreeSet<u16>) -> Result<Writes, String> {
+    let mut writes = Writes::default();
     for &number in numbers {
         for port in [0x6B, 0x0B] {
             for byte in 0..=u8::MAX {
@@ -1264,11 +1306,43 @@ fn every_byte(bench: &mut Bench, rng: &mut Rng, numbers: &BTreeSet<u16>) -> Resu
                 if answer.number != 0 {
                     return Err(format!("{:?} of {:?} gives {:?}", call, device, answer));
                 }
-                writes += 1;
+                writes.accepted += 1;
+                writes.warnings[usize::from(answer.warning)] += 1;
+                writes.refused += refused_writes(bench, rng, device, port, byte)?;
             }
         }
     }
+    if writes.warnings != WRITES_BY_WARNING {
+        return Err(format!("warnings {:?}, not {:?}", writes.warnings, WRITES_BY_WARNING));
+    }
     Ok(writes)
+}
+
+/// Writes that a disabled device takes, and that are refused on a device that is
+/// not valid, on another port and while the bus is held. Gives how many.
+fn refused_writes(
+    bench: &mut Bench,
+    rng: &mut Rng,
+    device: Device,
+    port: u16,
+    byte: u8,
+) -> Result<u32, String> {
+    let mut invalid = device;
+    invalid.core.readback.position = 7;
+    let mut holding = device;
+    holding.core.enabled = true;
+    leave_bytes(&mut holding.core);
+    // No bit makes one of the two ports the other.
+    let other_port = port ^ (1 << rng.below(8));
+    let cases = [(1, invalid, port), (2, device, other_port), (3, holding, port)];
+    for (number, device, port) in cases {
+        let call = Call::Write { port, byte };
+        let (answer, after) = bench.answer(device, call)?;
+        if (answer.number, answer.warning, after) != (number, model::NO_WARNING, device) {
+            return Err(format!("{:?} of {:?} gives {:?}", call, device, answer));
+        }
+    }
+    Ok(cases.len() as u32)
 }
 
 // ---- Every speed code, and every slot ------------------------------------
@@ -1436,15 +1510,17 @@ fn options(words: &[&str]) -> Result<Options, String> {
     Ok(options)
 }
 
-/// Prints what the grants and the writes in waits came to, and which numbers of
-/// pending parameters came. Where there were enough of them, none of it may be
-/// missing.
+/// Prints what the grants and the writes in waits came to, and which warnings and
+/// which numbers of pending parameters came. Where there were enough of them, none
+/// of it may be missing.
 fn counted(of: &str, bench: &Bench, enough: bool) -> Result<(), String> {
     println!("{}", bench.grants.summary(of));
     println!("{}", bench.waits.summary(&format!("states: waits of {}", of)));
+    println!("{}", bench.warnings.summary(&format!("states: warnings of {}", of)));
     println!("{}", bench.numbers.summary(&format!("states: pending parameters of {}", of)));
     none_missing("grant", of, bench.grants.missing(), enough)?;
     none_missing("wait", of, bench.waits.missing(), enough)?;
+    none_missing("warning", of, bench.warnings.missing(), enough)?;
     none_missing("pending parameters", of, bench.numbers.missing(), enough)
 }
 
@@ -1474,21 +1550,21 @@ fn compare(options: &Options) -> Result<String, String> {
         every_slot(&mut bench, seed)?;
         finished_devices(&mut bench, seed)?;
     }
-    bench.count_anew(Grants::of_devices(), Speeds::of_devices());
+    bench.count_anew(Grants::of_devices(), Warnings::of_devices(), Speeds::of_devices());
     for &seed in seeds {
         println!("states: seed {}: {} calls", seed, calls);
         made_calls(&mut bench, seed, *calls)?;
     }
     counted("devices", &bench, *calls >= CALLS)?;
     speeds_counted("devices", &bench, *calls >= CALLS)?;
-    bench.count_anew(Grants::of_sessions(), Speeds::of_lists());
+    bench.count_anew(Grants::of_sessions(), Warnings::of_sessions(), Speeds::of_lists());
     for &seed in seeds {
         println!("states: seed {}: {} lists of calls that set the speed", seed, lists);
         made_lists(&mut bench, seed, *lists)?;
     }
     speeds_counted("lists", &bench, *lists >= LISTS)?;
     // Without the stored ones: what is made has to come to everything alone.
-    bench.count_anew(Grants::of_sessions(), Speeds::of_lists());
+    bench.count_anew(Grants::of_sessions(), Warnings::of_sessions(), Speeds::of_lists());
     for &seed in seeds {
         println!("states: seed {}: {} sessions", seed, sessions);
         made_sessions(&mut bench, seed, *sessions)?;
