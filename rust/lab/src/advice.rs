@@ -7,6 +7,7 @@
 //! nothing else that is told, and no exit status.
 
 mod block;
+mod discouraged;
 mod trial;
 
 use crate::record::{Item, Record, Step};
@@ -44,6 +45,8 @@ pub enum Topic {
     Overlap,
     /// The block goes on at the other end of memory.
     Wrap,
+    /// A write has a warning: its value should not be used.
+    Discouraged,
     /// A parameter is pending at the end.
     ParameterMissing,
     /// The DMA runs at the end.
@@ -201,6 +204,26 @@ impl Advisor {
         }
         if is.block.counter == 0 {
             self.block.begin();
+        }
+        // Other advice on the byte says more: it was hardly meant as what it is.
+        if found.is_empty() {
+            found.extend(self.discouraged(byte, answer, following));
+        }
+    }
+
+    /// Advice on a value that should not be used, once for each warning: every
+    /// record that has it says so beside its line. A command that was taken as
+    /// a timing byte and is written again is left alone: whoever doesn't know
+    /// what is pending writes Reset several times.
+    fn discouraged(&self, byte: u8, answer: &Answer, following: &[Item]) -> Option<Advice> {
+        let advice = discouraged::advice_on(byte, answer)?;
+        let named = self.named.iter().any(|(remedy, _)| *remedy == advice.remedy);
+        let again =
+            || words::command_name(byte).is_some() && carried_out(byte, answer.after, following);
+        if named || again() {
+            None
+        } else {
+            Some(advice)
         }
     }
 

@@ -18,6 +18,19 @@ pub fn failure(expect: &Expect, trace: &Trace, replies: &[Reply]) -> Option<Stri
             let (found, why) = (last.number, words::refusal(last.number));
             Some(format!("expected {number}, {}; found {found}, {why}", words::refusal(*number)))
         }
+        Expect::Warning(warning) => {
+            let last = replies.iter().rev().find(|reply| reply.letter == 'W')?;
+            if last.warning == *warning {
+                return None;
+            }
+            let name = words::warning_name;
+            let refused = match last.number {
+                0 => String::new(),
+                number => format!(": the write was refused, {}", words::refusal(number)),
+            };
+            let (expected, found) = (name(*warning), name(last.warning));
+            Some(format!("expected warning {expected}, found {found}{refused}"))
+        }
         Expect::Memory { address, bytes } => memory_failure(trace.memory(), *address, bytes),
         Expect::Counts(expected) => {
             let clocks = trace.device().clocks;

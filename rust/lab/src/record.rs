@@ -33,6 +33,8 @@ pub enum Expect {
     Bytes(Vec<u8>),
     /// The last write, read or grant was answered with this number.
     Refused(u8),
+    /// The last write was answered with this warning.
+    Warning(u8),
     /// Memory holds these bytes from the address on; addresses wrap.
     Memory { address: u16, bytes: Vec<u8> },
     /// The clock counts: bus, held, CPU.

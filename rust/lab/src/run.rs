@@ -9,7 +9,9 @@ use crate::trace::{
     fault_line, last_line, Answer, Event, Move, Reply, Trace, WithoutCpu, TOLD_ENDS,
 };
 use crate::words::{self, grouped, many};
+use std::fmt;
 use std::io::{self, Write};
+use zxndma::warning;
 
 /// Moves, block ends and lines of bytes that are shown, unless all are. A
 /// brief trace tells as many singly.
@@ -59,6 +61,7 @@ pub fn run(
     let mut trace = if detail == Detail::All { Trace::default() } else { Trace::brief() };
     let mut replies: Vec<Reply> = Vec::new();
     let mut outcome = Outcome::default();
+    let mut warned = Records::default();
     let mut advised = Advised::new(telling.advice);
     for (at, item) in session.items.iter().enumerate() {
         match &item.step {
@@ -78,6 +81,9 @@ pub fn run(
                         answer
                     }
                 };
+                if answer.reply.warning != warning::NONE {
+                    warned.add(number);
+                }
                 replies.push(answer.reply);
             }
             Step::Expect(expect) => {
@@ -111,6 +117,9 @@ pub fn run(
         message.lines().try_for_each(|line| writeln!(out, "{INDENT}{line}"))?;
     }
     summary(&trace, detail, out)?;
+    if warned.count > 0 {
+        writeln!(out, "Discouraged values, at {warned}.")?;
+    }
     advised.end(&trace, out)?;
     let checks = session.items.iter().filter(|item| matches!(item.step, Step::Expect(_))).count();
     if checks > 0 {
@@ -133,7 +142,7 @@ pub fn answer_in_words(record: &Record, answer: &Answer) -> String {
         return refused(record, reply.number);
     }
     match record {
-        Record::Write { byte, .. } => words::write(before, after, *byte).to_string(),
+        Record::Write { byte, .. } => words::write(answer, *byte).to_string(),
         Record::Read { .. } => words::read(before, after, reply.byte.unwrap_or(0)),
         Record::Grant { clocks } => many(u64::from(*clocks), "clock"),
         Record::Memory { address, bytes } => {
@@ -290,15 +299,13 @@ fn move_in_words(moved: &Move) -> String {
 struct Advised {
     /// None if no advice is wanted.
     advisor: Option<Advisor>,
-    /// The first records with advice, and how many there are in all.
-    first: Vec<String>,
-    records: usize,
+    records: Records,
 }
 
 impl Advised {
     fn new(wanted: bool) -> Advised {
         let advisor = if wanted { Some(Advisor::default()) } else { None };
-        Advised { advisor, first: Vec::new(), records: 0 }
+        Advised { advisor, records: Records::default() }
     }
 
     fn event(&mut self, event: &Event) {
@@ -321,10 +328,7 @@ impl Advised {
         };
         let advice = advisor.record(record, answer, following);
         if !advice.is_empty() {
-            self.records += 1;
-            if self.records as u64 <= FIRST {
-                self.first.push(number.to_string());
-            }
+            self.records.add(number);
         }
         advice.iter().try_for_each(|advice| paragraph(out, INDENT, advice))
     }
@@ -333,16 +337,37 @@ impl Advised {
     fn end(&mut self, trace: &Trace, out: &mut dyn Write) -> io::Result<()> {
         let advice = self.advisor.as_mut().map_or_else(Vec::new, |advisor| advisor.end(trace));
         advice.iter().try_for_each(|advice| paragraph(out, "", advice))?;
-        let records = match self.records {
-            0 => return Ok(()),
-            1 => "record",
-            _ => "records",
-        };
-        let more = match self.records - self.first.len() {
-            0 => String::new(),
-            more => format!(" and {more} more"),
-        };
-        writeln!(out, "Advice above, at {records} {}{more}.", self.first.join(", "))
+        if self.records.count == 0 {
+            return Ok(());
+        }
+        writeln!(out, "Advice above, at {}.", self.records)
+    }
+}
+
+/// Records to name at the end: the first ones, and how many there are in all.
+#[derive(Default)]
+struct Records {
+    first: Vec<String>,
+    count: usize,
+}
+
+impl Records {
+    fn add(&mut self, number: usize) {
+        self.count += 1;
+        if self.count as u64 <= FIRST {
+            self.first.push(number.to_string());
+        }
+    }
+}
+
+impl fmt::Display for Records {
+    fn fmt(&self, f: &mut fmt::Formatter) -> fmt::Result {
+        let s = if self.count == 1 { "" } else { "s" };
+        write!(f, "record{s} {}", self.first.join(", "))?;
+        match self.count - self.first.len() {
+            0 => Ok(()),
+            more => write!(f, " and {more} more"),
+        }
     }
 }
 

@@ -91,6 +91,9 @@ fn check(out: &mut dyn Write, expect: &Expect) -> io::Result<()> {
     match expect {
         Expect::Bytes(bytes) => writeln!(out, "expect byte {}", bytes_listed(bytes)),
         Expect::Refused(number) => writeln!(out, "expect refused {number}"),
+        Expect::Warning(warning) => {
+            writeln!(out, "expect warning {}", words::warning_name(*warning))
+        }
         Expect::Memory { address, bytes } => {
             writeln!(out, "expect memory ${address:04X}: {}", bytes_listed(bytes))
         }
@@ -117,7 +120,7 @@ impl Writes {
         self.port = port;
         self.bytes.push(byte);
         if accepted {
-            self.comments.extend(words::write(&answer.before, &answer.after, byte).set);
+            self.comments.extend(words::write(answer, byte).set);
         } else {
             self.comments.push(answer_in_words(&Record::Write { port, byte }, answer));
         }

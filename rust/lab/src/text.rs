@@ -11,6 +11,7 @@ mod lexer;
 
 use crate::record::{Expect, Item, Record, Session, Step, MEMORY_RECORD};
 use crate::source::{Error, Place};
+use crate::words::WARNINGS;
 use expression::{Expression, Meaning, Names, Position, Words};
 use lexer::Token;
 use std::rc::Rc;
@@ -28,6 +29,7 @@ The text language:
   run until done           let the fewest clocks pass that end the block
   expect byte BYTE, ..     the last reads, as many as these, gave these bytes
   expect refused NUMBER    the last write, read or run was refused so; 0: accepted
+  expect warning KIND      the last write's: operation, timing, mode or none
   expect memory ADDRESS: BYTE, ..
   expect counts BUS HELD CPU
   [LABEL] db BYTE, ..      bytes of a table, also \"TEXT\"
@@ -58,7 +60,7 @@ pub fn session(text: &str, files: Files) -> Result<Session, Error> {
     }
     reader.end_table()?;
     let Reader { statements, names, .. } = reader;
-    let mut writer = Writer { names, items: Vec::new(), calls: 0, reads: 0 };
+    let mut writer = Writer { names, items: Vec::new(), calls: 0, reads: 0, writes: 0 };
     for (place, statement) in statements {
         writer.statement(place, statement)?;
     }
@@ -107,6 +109,7 @@ enum Statement {
     RunUntilDone,
     ExpectBytes(Table),
     ExpectRefused(Expression),
+    ExpectWarning(u8),
     ExpectMemory { address: Expression, table: Table },
     ExpectCounts([Expression; 3]),
 }
@@ -345,6 +348,12 @@ fn expect(words: &mut Words) -> Result<Statement, Error> {
     if take_word(words, "refused") {
         return Ok(Statement::ExpectRefused(words.expression("a refusal number")?));
     }
+    if take_word(words, "warning") {
+        let named = WARNINGS.iter().find(|(name, _)| take_word(words, name));
+        let (_, warning) =
+            named.ok_or_else(|| words.expected("'operation', 'timing', 'mode' or 'none'"))?;
+        return Ok(Statement::ExpectWarning(*warning));
+    }
     if take_word(words, "memory") {
         let address = words.expression("an address")?;
         words.sign(':')?;
@@ -360,7 +369,7 @@ fn expect(words: &mut Words) -> Result<Statement, Error> {
         let cpu = words.expression("CPU clocks")?;
         return Ok(Statement::ExpectCounts([bus, held, cpu]));
     }
-    Err(words.expected("'byte', 'refused', 'memory' or 'counts'"))
+    Err(words.expected("'byte', 'refused', 'warning', 'memory' or 'counts'"))
 }
 
 // ---- Making records ------------------------------------------------------
@@ -368,10 +377,11 @@ fn expect(words: &mut Words) -> Result<Statement, Error> {
 struct Writer {
     names: Names,
     items: Vec<Item>,
-    /// Writes, reads and grants so far, and the reads among them: a check
-    /// looks back on them.
+    /// Writes, reads and grants so far, and the reads and the writes among
+    /// them: a check looks back on them.
     calls: usize,
     reads: usize,
+    writes: usize,
 }
 
 impl Writer {
@@ -381,6 +391,7 @@ impl Writer {
                 let port = self.number(&port, ADDRESS, "a port number")? as u16;
                 for (place, byte) in self.bytes(&table, &None)? {
                     self.call(place, Step::Record(Record::Write { port, byte }))?;
+                    self.writes += 1;
                 }
             }
             Statement::In { port, count } => {
@@ -426,6 +437,13 @@ impl Writer {
                     return Err(Error::new(place, message));
                 }
                 self.item(place, Step::Expect(Expect::Refused(number)))?;
+            }
+            Statement::ExpectWarning(warning) => {
+                if self.writes == 0 {
+                    let message = "expected an out or otir above this line";
+                    return Err(Error::new(place, message));
+                }
+                self.item(place, Step::Expect(Expect::Warning(warning)))?;
             }
             Statement::ExpectMemory { address, table } => {
                 let address = self.number(&address, ADDRESS, "an address")? as u16;
@@ -511,7 +529,7 @@ mod tests {
 
     #[test]
     fn errors_name_their_place_and_what_was_expected() {
-        let cases: [(&str, u32, u32, &str); 27] = [
+        let cases: [(&str, u32, u32, &str); 30] = [
             ("run", 1, 4, "expected clocks or 'until done', found the end of the line"),
             ("run until dawn", 1, 11, "expected 'done', found 'dawn'"),
             ("run 4294967296", 1, 5, "expected a number up to 4294967295"),
@@ -537,7 +555,10 @@ mod tests {
             ("mem 0: file x", 1, 13, "expected the name of a file in quotes, found 'x'"),
             ("expect byte 1", 1, 1, "expected 1 reads above this line, found 0"),
             ("expect refused 3", 1, 1, "expected an out, otir, in or run above this line"),
-            ("expect nothing", 1, 8, "expected 'byte', 'refused', 'memory' or 'counts', found 'nothing'"),
+            ("in $6B\nexpect warning none", 2, 1, "expected an out or otir above this line"),
+            ("expect warning", 1, 15, "expected 'operation', 'timing', 'mode' or 'none', found the end of the line"),
+            ("expect warning 2", 1, 16, "expected 'operation', 'timing', 'mode' or 'none', found the number 2"),
+            ("expect nothing", 1, 8, "expected 'byte', 'refused', 'warning', 'memory' or 'counts', found 'nothing'"),
             ("run 1/0", 1, 5, "expected a sum whose value is a number up to 64 bits"),
         ];
         for (content, line, column, message) in cases {

@@ -19,7 +19,7 @@
 //! bounded list of them for a picture.
 
 use crate::record::Record;
-use zxndma::{Clocks, Core, Device, Port, Slot, BUFFER_LENGTH};
+use zxndma::{warning, Clocks, Core, Device, Port, Slot, BUFFER_LENGTH};
 
 /// Writes to latches that a trace keeps.
 pub const LATCH_WRITES: usize = 65_536;
@@ -121,15 +121,23 @@ pub struct Reply {
     pub number: u8,
     /// Of an accepted read.
     pub byte: Option<u8>,
+    /// Of an accepted write, as the library answers it; otherwise none.
+    pub warning: u8,
 }
 
 impl Reply {
+    /// A reply without a byte and without a warning.
+    fn plain(letter: char, number: u8) -> Reply {
+        Reply { letter, number, byte: None, warning: warning::NONE }
+    }
+
     /// The bench's line, without its line feed.
     pub fn line(&self) -> String {
-        let Reply { letter, number, byte } = self;
-        match byte {
-            Some(byte) => format!("{letter} {number} {byte:02X}"),
-            None => format!("{letter} {number}"),
+        let Reply { letter, number, byte, warning } = self;
+        match (byte, *warning) {
+            (Some(byte), _) => format!("{letter} {number} {byte:02X}"),
+            (None, warning::NONE) => format!("{letter} {number}"),
+            (None, _) => format!("{letter} {number} !"),
         }
     }
 }
@@ -309,20 +317,18 @@ impl Trace {
             Record::Write { port, byte } => {
                 let answer = self.device.write(*port, *byte);
                 self.device = answer.device;
-                Reply { letter: 'W', number: answer.number, byte: None }
+                Reply { warning: answer.warning, ..Reply::plain('W', answer.number) }
             }
             Record::Read { port } => {
                 let answer = self.device.read(*port);
                 self.device = answer.device;
                 let byte = if answer.number == 0 { Some(answer.byte) } else { None };
-                Reply { letter: 'R', number: answer.number, byte }
+                Reply { byte, ..Reply::plain('R', answer.number) }
             }
-            Record::Grant { clocks } => {
-                Reply { letter: 'G', number: self.grant_number(*clocks), byte: None }
-            }
+            Record::Grant { clocks } => Reply::plain('G', self.grant_number(*clocks)),
             Record::Memory { address, bytes } => {
                 self.put(*address, bytes);
-                Reply { letter: 'M', number: 0, byte: None }
+                Reply::plain('M', 0)
             }
         };
         self.records += 1;

@@ -1,10 +1,11 @@
 //! What bytes, registers and answers are called. A register is named by the
 //! bits of its byte, or a parameter by what the device had pending; what it
-//! set is taken from the device's fields.
+//! set is taken from the device's fields, and whether it should be used from the
+//! library's warning.
 
-use crate::trace::{source_and_destination, End};
+use crate::trace::{source_and_destination, Answer, End};
 use std::fmt;
-use zxndma::{pending, Core, Device, Port};
+use zxndma::{pending, warning, Core, Device, Port};
 
 /// Of the bits 0 to 9 of pending parameters.
 const PARAMETERS: [&str; 10] = [
@@ -23,6 +24,14 @@ const PARAMETERS: [&str; 10] = [
 /// The registers that can be read, by their number.
 pub const REGISTERS: [&str; 7] =
     ["status", "counter low", "counter high", "A low", "A high", "B low", "B high"];
+
+/// The warnings of writes, by their names.
+pub const WARNINGS: [(&str, u8); 4] = [
+    ("none", warning::NONE),
+    ("operation", warning::OPERATION),
+    ("timing", warning::TIMING),
+    ("mode", warning::MODE),
+];
 
 pub const LOAD: u8 = 0xCF;
 pub const ENABLE: u8 = 0x87;
@@ -91,6 +100,29 @@ pub fn refusal(number: u8) -> &'static str {
         6 => "the clock counts would not fit 64 bits",
         _ => "no such number",
     }
+}
+
+/// The name of a warning, by its number.
+pub fn warning_name(number: u8) -> &'static str {
+    let named = WARNINGS.iter().find(|(_, warning)| *warning == number);
+    named.map_or("of no such number", |(name, _)| *name)
+}
+
+/// The bits of a byte that its warning is about.
+pub fn warned_bits(warning: u8, byte: u8) -> u8 {
+    let bits = if warning == warning::MODE { byte >> 5 } else { byte };
+    bits & 0b11
+}
+
+/// The value that a byte's warning is about, and what to use in its place.
+fn discouraged(warning: u8, byte: u8) -> Option<String> {
+    let (what, instead) = match warning {
+        warning::OPERATION => ("AA", "01"),
+        warning::TIMING => ("timing", "00"),
+        warning::MODE => ("mode", "01, or 10 for burst"),
+        _ => return None,
+    };
+    Some(format!("{what} {:02b} is discouraged: use {instead}", warned_bits(warning, byte)))
 }
 
 /// What is wrong with a session, by its fault's number.
@@ -182,7 +214,7 @@ pub fn direction(core: &Core) -> &'static str {
     }
 }
 
-fn continuous_or_burst(core: &Core) -> &'static str {
+pub fn continuous_or_burst(core: &Core) -> &'static str {
     if core.control.burst {
         "burst"
     } else {
@@ -213,7 +245,8 @@ fn mask(mask: u8) -> String {
 pub struct Written {
     /// The parameter's name, if it was one.
     parameter: Option<&'static str>,
-    /// What it set. None for the low byte of a number whose high byte is next.
+    /// What it set, and whether it should. None for the low byte of a number
+    /// whose high byte is next.
     pub set: Option<String>,
     /// The parameters that a register asks for.
     next: Vec<&'static str>,
@@ -231,19 +264,21 @@ impl fmt::Display for Written {
 }
 
 /// What an accepted write did.
-pub fn write(before: &Device, after: &Device, byte: u8) -> Written {
-    let (was, is) = (&before.core, &after.core);
+pub fn write(answer: &Answer, byte: u8) -> Written {
+    let (was, is) = (&answer.before.core, &answer.after.core);
     let came = pending::next(was.pending);
     let parameter = parameter(came);
-    let mut set = match parameter {
+    let set = match parameter {
         Some(_) => parameter_set(came, is),
         None => Some(register(was, is, byte)),
     };
+    let mut parts = Vec::from_iter(set);
+    parts.extend(discouraged(answer.reply.warning, byte));
     if was.block.zilog != is.block.zilog {
         let longer = if is.block.zilog { ": a block has length + 1 bytes" } else { "" };
-        let change = format!("mode {}{longer}", mode(is));
-        set = Some(set.map_or(change.clone(), |set| format!("{set}; {change}")));
+        parts.push(format!("mode {}{longer}", mode(is)));
     }
+    let set = if parts.is_empty() { None } else { Some(parts.join("; ")) };
     // A parameter among others goes without the list: its register had it.
     let asks = was.pending == came;
     let next = if asks { pending_names(is.pending) } else { Vec::new() };
@@ -378,16 +413,21 @@ pub fn status(byte: u8) -> String {
 #[cfg(test)]
 mod tests {
     use super::*;
+    use crate::record::Record;
+    use crate::trace::Trace;
 
-    /// What each byte of a sequence to port 6B is told to do.
-    fn told(bytes: &[u8]) -> Vec<String> {
-        let mut device = Device::power_on();
+    /// What each byte of a sequence to a port is told to do.
+    fn told_at(port: u16, bytes: &[u8]) -> Vec<String> {
+        let mut trace = Trace::brief();
         let mut one = |byte: &u8| {
-            let before = device;
-            device = before.write(0x6B, *byte).device;
-            write(&before, &device, *byte).to_string()
+            let answer = trace.step(&Record::Write { port, byte: *byte }, &mut |_| ());
+            write(&answer, *byte).to_string()
         };
         bytes.iter().map(&mut one).collect()
+    }
+
+    fn told(bytes: &[u8]) -> Vec<String> {
+        told_at(0x6B, bytes)
     }
 
     #[test]
@@ -410,6 +450,38 @@ mod tests {
             "WR5: auto restart on",
         ];
         assert_eq!(told, expected);
+    }
+
+    #[test]
+    fn discouraged_values_are_told() {
+        let told = told(&[0x27, 3, 0x44, 0xFF, 0x40, 0x23, 3, 0x81, 0xED, 3, 3, 0x02]);
+        let expected = [
+            "WR0: A to B; AA 11 is discouraged: use 01; next: length low",
+            "length low: length 3",
+            "WR1: A is memory, decrements; next: A timing",
+            "A timing: A takes 4 clocks; timing 11 is discouraged: use 00",
+            "WR2: B is memory, decrements; next: B timing",
+            "B timing: B takes 4 clocks; timing 11 is discouraged: use 00; next: prescaler",
+            "prescaler 3, 96 clocks for each byte",
+            "WR4: continuous; mode 00 is discouraged: use 01, or 10 for burst",
+            "WR4: continuous; mode 11 is discouraged: use 01, or 10 for burst; next: B address \
+             low, B address high",
+            "B address low",
+            "B address high: B starts at 0303",
+            "WR0: B to A; AA 10 is discouraged: use 01",
+        ];
+        assert_eq!(told, expected);
+        // Before the mode that the port sets.
+        let expected = "WR0: B to A; AA 11 is discouraged: use 01; mode Zilog: a block has \
+                        length + 1 bytes";
+        assert_eq!(told_at(0x0B, &[3]), [expected]);
+    }
+
+    #[test]
+    fn warnings_are_named_by_their_numbers() {
+        for (number, (name, warning)) in (0..).zip(WARNINGS) {
+            assert_eq!((number, name), (warning, warning_name(number)));
+        }
     }
 
     #[test]

@@ -131,13 +131,13 @@ fn a_finished_block_asks_for_load_if_addresses_were_written() {
 
 #[test]
 fn a_command_taken_as_a_parameter() {
-    // BB forgotten before the mask 7F, which is WR0 with four parameters.
-    let given = advice(&copy_with("$CF, $87", "$7F, $CF, $87"));
+    // BB forgotten before the mask 7D, which is WR0 with four parameters.
+    let given = advice(&copy_with("$CF, $87", "$7D, $CF, $87"));
     let found: Vec<_> = given.iter().map(|(record, advice)| (*record, advice.topic)).collect();
     let taken = Topic::CommandAsParameter;
     let expected = [(Some(16), taken), (Some(17), taken), (None, Topic::ParameterMissing)];
     assert_eq!(found, expected);
-    let expected = "CF was taken as the A address low and not as Load, since 7F in record 15 \
+    let expected = "CF was taken as the A address low and not as Load, since 7D in record 15 \
                     asked for it";
     assert_eq!(given[0].1.reason, expected);
     // The mask forgotten behind BB.
@@ -151,7 +151,7 @@ fn a_command_taken_as_a_parameter() {
     assert_eq!(topic, Topic::CommandAsParameter);
     assert!(reason.ends_with("since 22 in record 10 asked for it"), "{reason}");
     // Carried out at another port it is not.
-    let elsewhere = copy_with("$CF, $87", "$7F, $CF, $87, 0, 0\nout $6C, $CF, $87");
+    let elsewhere = copy_with("$CF, $87", "$7D, $CF, $87, 0, 0\nout $6C, $CF, $87");
     assert_eq!(topics(&elsewhere), [Topic::CommandAsParameter; 2]);
     // A program that begins with one, as an earlier one left a parameter out.
     let begun = "out $6B, $AD, $00\nrun 1\nout $6B, $83\n";
@@ -337,6 +337,66 @@ fn a_block_that_wraps() {
     assert_eq!(only(&(copy_with("$2000", "$FFFD") + "run until done\n")).1, Topic::Wrap);
     // It ends at the last address, and the next block begins at the first.
     no_advice(&(from("$FFFC") + "out $6B, $D3, $87\nrun until done\n"));
+}
+
+#[test]
+fn discouraged_values() {
+    let program = |piece: &str, other: &str| copy_with(piece, other) + "run until done\n";
+    let cases = [
+        ("$7D", "$7E", 2, "7E is WR0 with 10 in bits 1-0 (search on the Z80 DMA)"),
+        ("$7D", "$7F", 2, "7F is WR0 with 11 in bits 1-0 (search and transfer on the Z80 DMA)"),
+        ("$54, 2", "$54, 3", 8, "03 is A timing with 11 in bits 1-0"),
+        ("$50, 2", "$50, 3", 10, "03 is B timing with 11 in bits 1-0"),
+        ("$AD", "$8D", 11, "8D is WR4 with 00 in bits 6-5 (byte mode on the Z80 DMA)"),
+        ("$AD", "$ED", 11, "ED is WR4 with 11 in bits 6-5"),
+    ];
+    for (piece, other, at, expected) in cases {
+        let (record, topic, reason) = only(&program(piece, other));
+        assert_eq!((record, topic), (Some(at), Topic::Discouraged), "{other}");
+        let expected = format!("{expected}, which programs should not use: ");
+        assert!(reason.starts_with(&expected), "{reason}");
+    }
+    let acts = |piece: &str, other: &str| {
+        let (_, _, reason) = only(&program(piece, other));
+        reason.rsplit(": ").next().map(String::from)
+    };
+    assert_eq!(acts("$7D", "$7F").as_deref(), Some("it transfers, as 01 does"));
+    assert_eq!(acts("$50, 2", "$50, 3").as_deref(), Some("B takes 4 clocks, as by 00"));
+    assert_eq!(acts("$AD", "$ED").as_deref(), Some("it is continuous, as 01 is"));
+    // The values to use; 11 in a number, and at another port.
+    no_advice(&program("$54, 2, $50, 2", "$54, 0, $50, 1"));
+    no_advice(&program("$1000, 4", "$0303, $0303"));
+    no_advice(&program("$AD", "$CD"));
+    no_advice(&format!("out $6C, $7F, $8D\n{COPY} run until done\n"));
+    // A command as a timing byte, and one that is written again.
+    let (record, topic, reason) = only(&program("$CF, $87", "$44, $83, $CF, $87"));
+    assert_eq!((record, topic), (Some(16), Topic::Discouraged));
+    assert!(reason.starts_with("83 is A timing with 11 in bits 1-0"), "{reason}");
+    no_advice(&format!("out $6B, $44\nrun 1\nout $6B, $C3, $C3\n{COPY} run until done\n"));
+}
+
+/// Each warning is advised on at its first record, and nowhere else.
+#[test]
+fn discouraged_values_are_named_once() {
+    let all = COPY.replace("$7D", "$7F").replace("$54, 2, $50, 2, $AD", "$54, 3, $50, 3, $8D");
+    let given = advice(&(all.clone() + "run until done\n" + &all + "run until done\n"));
+    let found: Vec<_> = given.iter().map(|(record, advice)| (*record, advice.topic)).collect();
+    assert_eq!(found, [2, 8, 11].map(|record| (Some(record), Topic::Discouraged)));
+}
+
+/// A byte that was hardly meant as what it is.
+#[test]
+fn other_advice_goes_before_that_on_discouraged_values() {
+    // A byte of the length left out, so that the timing 02 is WR0.
+    let (record, topic, _) = only(&(copy_with("$1000, 4", "$1000\n db 4") + "run until done\n"));
+    assert_eq!((record, topic), (Some(7), Topic::DirectionTurned));
+    // Load taken as a timing byte.
+    let (_, topic, _) = only(&copy_with("$CF, $87", "$44, $CF"));
+    assert_eq!(topic, Topic::CommandAsParameter);
+    // The mask 7F without BB is told at once, and what it takes behind it.
+    let taken = Topic::CommandAsParameter;
+    let given = topics(&copy_with("$CF, $87", "$7F, $CF, $87, 0, 0"));
+    assert_eq!(given, [Topic::Discouraged, taken, taken]);
 }
 
 #[test]

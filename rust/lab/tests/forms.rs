@@ -72,6 +72,14 @@ expect memory $2000: \"ABC\", 7, 24
 expect counts 64, 0, 0
 out $FF0B, $C3
 expect refused 0
+expect warning none
+out PORT, $E1
+Expect Warning Mode
+out PORT, $06
+expect warning operation
+out PORT, $44, 3
+in PORT
+expect warning timing
 ";
 
 #[test]

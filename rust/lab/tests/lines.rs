@@ -68,6 +68,7 @@ fn made_sessions_give_the_benchs_lines() {
     assert!(bench.is_file(), "no {}: build it by 'rt check bench'", bench.display());
     let bench = bench.to_str().expect("a path in UTF-8");
     let (seed, sessions) = (setting("LAB_SEED", 1), setting("LAB_SESSIONS", 3_000));
+    let mut warnings = 0;
     for number in 0..sessions {
         let bytes = generate::session(&mut generate::Rng::numbered(seed, number));
         let output = process::run(bench, &[&bytes]).expect("the bench runs");
@@ -78,5 +79,7 @@ fn made_sessions_give_the_benchs_lines() {
             lines_beside_words(&session) == expected,
             "seed {seed}, session {number}: other lines beside the words"
         );
+        warnings += expected.lines().filter(|line| *line == "W 0 !").count() as u64;
     }
+    assert!(warnings >= sessions, "too little tried: {warnings} warnings in {sessions} sessions");
 }

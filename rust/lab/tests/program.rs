@@ -39,6 +39,31 @@ fn checks_decide_the_status() {
     assert_eq!((status(&lines), said(&lines).as_str()), (1, "G 0\nB 0 0 10\n"));
 }
 
+/// The last write's, whatever comes behind it; a refused one has none.
+#[test]
+fn checks_of_warnings() {
+    let good = "out $6B, $E1\nrun 1\nexpect warning mode\nout $6C, $E1\nexpect warning none\n";
+    let lines = lab(&["run", "--lines", "-"], good);
+    assert_eq!((status(&lines), said(&lines).as_str()), (0, "W 0 !\nG 0\nW 2\nB 0 0 1\n"));
+    let bad = lab(&["run", "-"], "out $6B, $E1\nexpect warning timing\n");
+    assert_eq!(status(&bad), 1);
+    assert!(said(&bad).contains("FAILED -:2:1: expected warning timing, found mode\n"));
+    let refused = lab(&["run", "-"], "out $6C, $E1\nexpect warning mode\n");
+    let shown = "FAILED -:2:1: expected warning mode, found none: the write was refused, ";
+    assert!(said(&refused).contains(shown), "{}", said(&refused));
+}
+
+#[test]
+fn discouraged_values_are_counted_at_the_end() {
+    let one = said(&lab(&["run", "--no-advice", "-"], "out $6B, $A1, $E1, $A1\n"));
+    assert!(one.contains("\n    2  W 0 !     WR4: continuous; mode 11 is discouraged: "), "{one}");
+    assert!(one.ends_with("\nDiscouraged values, at record 2.\n"), "{one}");
+    let many = said(&lab(&["run", "--no-advice", "-"], &"out $6B, $E1\n".repeat(18)));
+    assert!(many.ends_with(", 15, 16 and 2 more.\n"), "{many}");
+    let none = said(&lab(&["run", "-"], "out $6B, $A1\n"));
+    assert!(!none.contains("iscouraged"), "{none}");
+}
+
 #[test]
 fn a_wrong_text_is_shown_and_nothing_runs() {
     let wrong = lab(&["run", "-"], "run 10\n\tout $6B, 300\n");
