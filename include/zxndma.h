@@ -128,10 +128,11 @@ typedef struct zxndma_device {
 } zxndma_device;
 
 /* The warnings of a port write: the byte was accepted and holds a value that programs should not use. It acts all the same,
- * as said below. Whether it is WR0, WR4 or a timing byte goes by what was pending as it was written. */
+ * as said below; a warning is no refusal, and has a field of its own. Whether the byte is WR0, WR4 or a timing byte goes by
+ * what was pending as it was written. */
 #define ZXNDMA_WARNING_NONE 0      /* no such value, or a refused write */
 #define ZXNDMA_WARNING_OPERATION 1 /* WR0 with bits 1-0 of 10 or 11: a transfer; use 01 */
-#define ZXNDMA_WARNING_TIMING 2    /* A timing or B timing with bits 1-0 of 11: a cycle of 4; use 00 */
+#define ZXNDMA_WARNING_TIMING 2    /* A or B timing with bits 1-0 of 11: a cycle of 4; use 00, or 01 for 3, 10 for 2 */
 #define ZXNDMA_WARNING_MODE 3      /* WR4 with bits 6-5 of 00 or 11: continuous; use 01, or 10 for burst */
 
 /* The answer to a port write. */

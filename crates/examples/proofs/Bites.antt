@@ -14,10 +14,10 @@ use package.borrow.Author.Tests.{eqb-true, ne-eqb}
 use Rattle.rules.specs.Choice.{pick, every, any}
 use Rattle.rules.specs.Validity.{valid, total}
 use Rattle.rules.specs.World.{System, Move}
-use Rattle.rules.specs.Calls.{read}
+use Rattle.rules.specs.Calls.{write, read}
 use Rattle.rules.proofs.Choice.{clash, either, pick-true, pick-false, all-true, every-stop, every-stop-later, every-at}
-use Rattle.examples.specs.Rows.{Action, fill, latch, send, sendAnswered, expect, expectRefused, speed, speedRefused, clocks, borrow, counts, memory, latches, pointers, counter, status, enabled, count, suppose, supposeCore, supposeCounts, clocksRefused, figure, changed, nextMove, Row, Seen, same, answered, sendAll, expectAll, movesSo, perform, played, Failure, rowFailures, start, failures}
-use Rattle.examples.specs.Bites.{Other, OneOther, here, later, sendAccepted, sendUnwarned, sendNumber, sendWarning, speedAccepted, clocksAccepted, expectByte, expectRefusedNumber, speedRefusedNumber, borrowNumber, countsBus, countsHeld, countsCpu, memoryByte, latchesByte, pointersA, pointersB, counterHolds, statusByte, enabledOr, countIs, clocksRefusedNumber, figureIs, changedValid, moveFrom, moveFromIo, moveTo, moveToIo, moveByte, Bites, TableBites, anyOf, expects, someExpects, allExpect, EveryRowExpects, ExpectsChangeable}
+use Rattle.examples.specs.Rows.{Action, fill, latch, send, sendAnswered, expect, expectRefused, speed, speedRefused, clocks, borrow, counts, memory, latches, pointers, counter, status, enabled, count, suppose, supposeCore, supposeCounts, clocksRefused, figure, changed, nextMove, Row, Seen, seen, same, answered, sendAll, expectAll, movesSo, perform, played, Failure, rowFailures, start, failures}
+use Rattle.examples.specs.Bites.{Other, OneOther, here, later, sendAccepted, sendUnwarned, sendNumber, sendWarning, speedAccepted, clocksAccepted, expectByte, expectRefusedNumber, speedRefusedNumber, borrowNumber, countsBus, countsHeld, countsCpu, memoryByte, latchesByte, pointersA, pointersB, counterHolds, statusByte, enabledOr, countIs, clocksRefusedNumber, figureIs, changedValid, moveFrom, moveFromIo, moveTo, moveToIo, moveByte, Bites, SendsSingly, TableBites, anyOf, expects, someExpects, allExpect, EveryRowExpects, ExpectsChangeable}
 
 -- ---- one value
 
@@ -63,6 +63,20 @@ reads-bite port _ _ r (here x y xs o) h =
     wrong-stays port xs _
     (every-at 2 _ (other-number _ x y o (e .1 .1 .0)))
 reads-bite port _ _ r (later x xs ys o) h = reads-bite port xs ys (answered 0 x 0 r (read (r .system) port)) o h
+
+-- ---- a send
+
+send-wrong-stays : (port : ℕ) (xs : List ℕ) (r : Seen) → r .right ≡ false → sendAll port xs r .right ≡ false
+unfolding sendAll
+send-wrong-stays port [] r h = h
+send-wrong-stays port (x ∷ xs) r h = send-wrong-stays port xs _ (every-stop _ _ h)
+
+pub sends-singly : SendsSingly
+unfolding perform sendAll
+sends-singly port byte bytes s h =
+    let a : Seen = answered 0 0 0 (seen true s) (write s port byte) in
+    let t : a .right ≡ true = either (a .right) (λ e. e) (λ e. clash (sym (send-wrong-stays port bytes a e) ∙ h)) in
+    (t, sym (λ i. sendAll port bytes (seen (t i) (a .system)) .right) ∙ h)
 
 -- ---- a move
 

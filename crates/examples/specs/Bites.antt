@@ -57,6 +57,14 @@ pub data OneChanged : Action → Action → Type 0 where
 abbrev pub Bites : Type 0
 Bites = (x y : Action) (s : System (List ℕ)) → OneChanged x y → perform x s .right ≡ true → perform y s .right ≡ false
 
+-- a send of several bytes is its writes one by one: where it is right, so is the first, and so are the others behind it
+abbrev pub SendsSingly : Type 0
+SendsSingly =
+    (port byte : ℕ) (bytes : List ℕ) (s : System (List ℕ))
+    → perform (send port (byte ∷ bytes)) s .right ≡ true
+    → (perform (send port (byte ∷ [])) s .right ≡ true)
+    × (perform (send port bytes) (perform (send port (byte ∷ [])) s .system) .right ≡ true)
+
 -- so a table of which every action is right has a failure, once one value of one of its rows is changed
 abbrev pub TableBites : Type 0
 TableBites =

@@ -1,4 +1,4 @@
-// Warnings: a byte holds a value that programs should not use. It does what it does; the warning is answered beside.
+// Warnings: a byte holds a value that programs should not use. It acts all the same; the warning is answered beside.
 ghost use mathlib.Core.Path.{_≡_};
 ghost use Rattle.rules.specs.Warnings.{warningAs};
 use crate::pending;

@@ -22,7 +22,7 @@ use Rattle.rules.specs.Keeping.{ValidDevice, StaysValid, StaysValidByTes
 use Rattle.rules.specs.Opened.{opened}
 use Rattle.rules.specs.declared.Clocks.{Clocks}
 use Rattle.rules.specs.declared.Core.{Core}
-use Rattle.rules.proofs.Choice.{pick-cases, pick-true, pick-false, either, all-true, true-all}
+use Rattle.rules.proofs.Choice.{pick-cases, pick-both, pick-true, pick-false, either, all-true, true-all}
 use Rattle.rules.proofs.Validity.{core-parts, parts-core}
 use Rattle.rules.proofs.Steady.{steady-control, kept-from, kept-steady, kept-slot, kept-progress}
 use Rattle.rules.proofs.Writing.{write-kept}
@@ -180,6 +180,11 @@ module _ {M : Type 0} (σ : Store M) where
       let g = granted σ _ _ _ n (eqb-true _ _ e) in
       record { core = clocked-kept σ n s (h .core); sum = (let t = clocked-total σ n s in omega (arith, g .room)) })
       (λ e. h)
+
+  -- neither a byte nor a warning
+  pub grant-plain : (s : System M) (n : ℕ) → (grant σ s n .answered .byte ≡ 0) × (grant σ s n .answered .warning ≡ 0)
+  unfolding grantOver
+  grant-plain s n = pick-both (λ (a : Answer M). (a .answered .byte ≡ 0) × (a .answered .warning ≡ 0)) _ _ _ (refl, refl) (refl, refl)
 
   -- a refused one hands everything back
   grant-refused : (s : System M) (n : ℕ) → (grant σ s n .answered .number ≡ 0 → ⊥) → grant σ s n ≡ record { answered = refused (grantNumber σ s n); system = s }

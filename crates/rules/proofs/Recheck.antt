@@ -25,7 +25,7 @@ use Rattle.rules.specs.Steering.{bits}
 use Rattle.rules.specs.Clock.{cpuClock, Clock, clock, stopped, movedAt, Ending, slotEnd, clockEnd, slotClock, begun, clockOf}
 use Rattle.rules.specs.Buffers.{Store}
 use Rattle.rules.specs.World.{System, clocked}
-use Rattle.rules.specs.Calls.{Answer, grant, Reply, unlessRefused, writeReply, readReply, speedReply, readReplyOver, speedReplyOver, grantOver, writeReplyOver}
+use Rattle.rules.specs.Calls.{Answer, grant, writeReply, readReply, speedReply, readReplyOver, speedReplyOver, grantOver, writeReplyOver}
 use Rattle.rules.specs.Entries.{Outside, Entry, portWrite, portRead, speedCall, clockGrant, otherGrant, outsideChange, besideBuffers, enter, runBy, run, systemAtPowerOn, runOver}
 use Rattle.rules.specs.History.{Past, historyBy, history}
 use Rattle.rules.specs.Recheck.{firstClockWithRecheck, clockWithRecheck, recheckHits, RecheckNeverHits, inWait, RecheckNearest, RecheckUnseen}

@@ -16,7 +16,7 @@ use Rattle.rules.specs.Clock.{Clock, clock, clockOf, slotClock}
 use Rattle.rules.specs.Buffers.{Store}
 use Rattle.rules.specs.World.{System}
 use Rattle.rules.specs.Refusals.{speedRefusal, speedRefusalIf}
-use Rattle.rules.specs.Calls.{Reply, Answer, accepted, refused, unlessRefused, writeReply, readReply, speedReply, grant, writeReplyOver, readReplyOver, speedReplyOver, grantOver}
+use Rattle.rules.specs.Calls.{Answer, accepted, refused, unlessRefused, writeReply, readReply, speedReply, grant, writeReplyOver, readReplyOver, speedReplyOver, grantOver}
 use Rattle.rules.specs.Entries.{Outside, speedCall}
 use Rattle.rules.specs.History.{Past, withCore, notedUnless, noteEntry}
 use Rattle.rules.specs.Slowing.{clockAtSpeed, LargerOf, SpeedExact}

@@ -13,7 +13,8 @@ use Rattle.rules.specs.Calls.{Answer, grant, grantOver}
 use Rattle.rules.specs.Entries.{Outside, Entry, clockGrant, Run, enter, run, systemAtPowerOn, runOver}
 use Rattle.rules.specs.History.{Past, notedUnless, clockPassed, clocksPassed, grantPassed, noteEntry, history, pastAtPowerOn, clocksPassedBy, historyBy}
 use Rattle.rules.specs.Splitting.{sumOf, AcceptedInTurn, grants, acceptedAnswers, SplitsWithin}
-use Rattle.rules.proofs.Choice.{pick-true, pick-both}
+use Rattle.rules.proofs.Choice.{pick-true}
+use Rattle.rules.proofs.Calls.{grant-plain}
 use Rattle.rules.proofs.Entries.{reached-valid, run-behind}
 use Rattle.rules.proofs.Splitting.{grant-splits}
 use Rattle.rules.proofs.Accounts.{Agree, entry-step, start-agrees, ends}
@@ -27,18 +28,13 @@ module _ {M C : Type 0} (σ : Store M) (ω : Outside M C) where
   answers-each [] s = refl
   answers-each (e ∷ es) s = ap suc (answers-each es (enter σ ω e s .system))
 
-  -- neither a byte nor a warning
-  grant-plain : (s : System M) (n : ℕ) → (grant σ s n .answered .byte ≡ 0) × (grant σ s n .answered .warning ≡ 0)
-  unfolding grantOver
-  grant-plain s n = pick-both (λ (a : Answer M). (a .answered .byte ≡ 0) × (a .answered .warning ≡ 0)) _ _ _ (refl, refl) (refl, refl)
-
   -- grants that are accepted in turn
   grants-run : (ns : List ℕ) (s t : System M) → AcceptedInTurn σ ns s t → run σ ω (grants ns) s ≡ record { answers = acceptedAnswers ns; system = t }
   unfolding runOver grants AcceptedInTurn acceptedAnswers
   grants-run [] s t a = λ i. record { answers = []; system = a i }
   grants-run (n ∷ ns) s t a =
       let h = grants-run ns (grant σ s n .system) t (a .1) in
-      let p = grant-plain s n in
+      let p = grant-plain σ s n in
       λ i. record { answers = record { number = a .0 i; byte = p .0 i; warning = p .1 i } ∷ h i .answers; system = h i .system }
 
   -- grants that are accepted in turn, between other entries

@@ -1,5 +1,5 @@
--- Warnings: by the table's rows, one after the other, and counted over all bytes; by the two cases of a call; along a list by the
--- history that its run agrees with, and entry by entry.
+-- Warnings: by the table's rows, one after the other, and counted over all bytes; by the two cases of a call; along a list by
+-- the history that its run agrees with, and entry by entry.
 -- Assumes nothing.
 use Prim.Native.Nat.{ℕ, _/_, _%_, _≤_, _<_}
 use native.Mathlib.Omega.{arith}
@@ -11,25 +11,26 @@ use lib.Dec.{eqb}
 use borrow.Author.Tests.{eqb-true, eqb-false, eq-eqb, ne-eqb}
 use Rattle.rules.specs.Choice.{pick, every, any}
 use Rattle.rules.specs.Selection.{selects}
-use Rattle.rules.specs.Pending.{aTiming, bTiming, prescaler, readMask, nothing, next}
+use Rattle.rules.specs.Pending.{aLow, aHigh, lengthLow, lengthHigh, aTiming, bTiming, prescaler, bLow, bHigh, readMask, nothing, next}
 use Rattle.rules.specs.Warnings.{discouragedOperation, discouragedTiming, discouragedMode, warningAs, warning}
 use Rattle.rules.specs.Validity.{total}
 use Rattle.rules.specs.Steering.{Steering}
 use Rattle.rules.specs.Clock.{Clock}
 use Rattle.rules.specs.Buffers.{Store}
-use Rattle.rules.specs.World.{World, SystemOf, System}
+use Rattle.rules.specs.World.{SystemOf, System}
 use Rattle.rules.specs.Refusals.{accessRefusal}
-use Rattle.rules.specs.Calls.{Answered, ReplyOf, Reply, AnswerOf, Answer, unlessRefused, writeReply, readReply, speedReply, grant, writeReplyOver, readReplyOver, speedReplyOver, grantOver}
+use Rattle.rules.specs.Calls.{ReplyOf, Reply, AnswerOf, Answer, unlessRefused, writeReply, readReply, speedReply, grant, writeReplyOver, readReplyOver, speedReplyOver, grantOver}
 use Rattle.rules.specs.Exactly.{Exactly, selected}
 use Rattle.rules.specs.Entries.{Outside, Entry, portWrite, portRead, speedCall, clockGrant, otherGrant, outsideChange, enterOver, runOver, run, enter, besideBuffers, systemAtPowerOn}
 use Rattle.rules.specs.History.{Past, notedUnless, noteEntry, pastAtPowerOn}
 use Rattle.rules.specs.Unwarned.{BareReplyOf, BareAnswerOf, bareUnlessRefused, bareWriteReplyOver, bareReadReplyOver, bareSpeedReplyOver, bareGrantOver, bareEnterOver, bareRunOver, bareBeside}
-use Rattle.rules.specs.Warned.{warnedBelow, warnedBytes, WarningExact, WarningAnswered, warningsOf, entryWarning, warningsAlong, WarningsNoted, bareReply, bareAnswer, bareAnswers, bareRun, WarningsAside}
+use Rattle.rules.specs.Warned.{warnedBelow, unwarned, warnedBytes, WarningExact, WarningAnswered, warningsOf, entryWarning, warningsAlong, WarningsNoted, bareReply, bareAnswer, bareAnswers, bareRun, WarningsAside}
 use Rattle.rules.specs.Opened.{opened}
 use Rattle.rules.specs.declared.Clocks.{Clocks}
 use Rattle.rules.specs.declared.Core.{Core}
 use Rattle.rules.proofs.Choice.{pick-true, pick-false, pick-cases, pick-both, pick-ap, both-picked, either, table, below, _⨾_, row-passed, row-taken, shows, every-at, all-true, true-all, any-first, any-more, any-cases, any-none}
 use Rattle.rules.proofs.Selection.{idle, wr0-exact, wr4-exact}
+use Rattle.rules.proofs.Calls.{grant-plain}
 use Rattle.rules.proofs.Refusing.{write-number}
 use Rattle.rules.proofs.Accounts.{Agree, entry-step, start-agrees}
 
@@ -155,9 +156,11 @@ of-timings : (warnedBytes aTiming ≡ 0 ∷ 64 ∷ 0 ∷ []) × (warnedBytes bTi
 unfolding opened warnedBelow
 of-timings = (refl, refl)
 
-of-others : (warnedBytes prescaler ≡ 0 ∷ 0 ∷ 0 ∷ []) × (warnedBytes readMask ≡ 0 ∷ 0 ∷ 0 ∷ [])
+of-others :
+    unwarned aLow ∷ unwarned aHigh ∷ unwarned lengthLow ∷ unwarned lengthHigh ∷ unwarned prescaler ∷ unwarned bLow ∷ unwarned bHigh ∷ unwarned readMask ∷ []
+    ≡ 256 ∷ 256 ∷ 256 ∷ 256 ∷ 256 ∷ 256 ∷ 256 ∷ 256 ∷ []
 unfolding opened warnedBelow
-of-others = (refl, refl)
+of-others = refl
 
 pub warning-exact : WarningExact
 warning-exact =
@@ -177,19 +180,19 @@ warning-exact =
 
 -- ---- calls
 
-write-warning : (c : Core) (k : Clocks) (port byte : ℕ) → accessRefusal c (total k) port ≡ 0 → writeReply c k port byte .answered .warning ≡ warning (c .pending) byte
-unfolding writeReplyOver unlessRefused
-write-warning c k port byte e = ap (λ (r : Reply). r .answered .warning) (pick-true _ _ _ (eq-eqb _ _ e))
+-- the warning of a write by core and sum alone
+abbrev writeWarning : Core → ℕ → ℕ → ℕ → ℕ
+writeWarning c sum port byte = pick (eqb (accessRefusal c sum port) 0) (warning (c .pending) byte) 0
 
--- no warning where it is refused, and none where it would have none
-unless-none : (number byte warning : ℕ) (next c : Core) (k : Clocks) → (number ≡ 0 → warning ≡ 0) → unlessRefused number byte warning next c k .answered .warning ≡ 0
-unfolding unlessRefused
-unless-none number byte warning next c k f =
-    pick-cases (λ (r : Reply). r .answered .warning ≡ 0) _ _ _ (λ e. f (eqb-true _ _ e)) (λ e. refl)
+write-warned : (c : Core) (k : Clocks) (port byte : ℕ) → writeReply c k port byte .answered .warning ≡ writeWarning c (total k) port byte
+unfolding writeReplyOver unlessRefused
+write-warned c k port byte = pick-ap (λ (r : Reply). r .answered .warning) _ _ _
+
+write-warning : (c : Core) (k : Clocks) (port byte : ℕ) → accessRefusal c (total k) port ≡ 0 → writeReply c k port byte .answered .warning ≡ warning (c .pending) byte
+write-warning c k port byte e = write-warned c k port byte ∙ pick-true _ _ _ (eq-eqb _ _ e)
 
 write-none : (c : Core) (k : Clocks) (port byte : ℕ) → (accessRefusal c (total k) port ≡ 0 → ⊥) → writeReply c k port byte .answered .warning ≡ 0
-unfolding writeReplyOver
-write-none c k port byte f = unless-none _ _ _ _ c k (λ e. absurd (f e))
+write-none c k port byte f = write-warned c k port byte ∙ pick-false _ _ _ (ne-eqb _ _ f)
 
 write-exact :
     (c : Core) (k : Clocks) (port byte w : ℕ) → (w ≡ 0 → ⊥)
@@ -204,17 +207,18 @@ write-exact c k port byte w f =
       from = λ h. write-warning c k port byte (sym (write-number c k port byte) ∙ h .0) ∙ h .1;
     }
 
+-- a call that has none if it is accepted
+unless-none : (number byte : ℕ) (next c : Core) (k : Clocks) → unlessRefused number byte 0 next c k .answered .warning ≡ 0
+unfolding unlessRefused
+unless-none number byte next c k = pick-both (λ (r : Reply). r .answered .warning ≡ 0) _ _ _ refl refl
+
 read-none : (c : Core) (k : Clocks) (port : ℕ) → readReply c k port .answered .warning ≡ 0
 unfolding readReplyOver
-read-none c k port = unless-none _ _ _ _ c k (λ e. refl)
+read-none c k port = unless-none _ _ _ c k
 
 speed-none : (c : Core) (k : Clocks) (code : ℕ) → speedReply c k code .answered .warning ≡ 0
 unfolding speedReplyOver
-speed-none c k code = unless-none _ _ _ _ c k (λ e. refl)
-
-grant-none : {M : Type 0} (σ : Store M) (s : System M) (n : ℕ) → grant σ s n .answered .warning ≡ 0
-unfolding grantOver
-grant-none σ s n = pick-both (λ (a : Answer _). a .answered .warning ≡ 0) _ _ _ refl refl
+speed-none c k code = unless-none _ _ _ c k
 
 pub warning-answered : WarningAnswered
 warning-answered =
@@ -224,18 +228,10 @@ warning-answered =
       exact = write-exact;
       read = read-none;
       speed = speed-none;
-      granted = grant-none;
+      granted = λ σ s n. grant-plain σ s n .1;
     }
 
 -- ---- lists
-
--- the warning of a write by core and sum alone
-abbrev writeWarning : Core → ℕ → ℕ → ℕ → ℕ
-writeWarning c sum port byte = pick (eqb (accessRefusal c sum port) 0) (warning (c .pending) byte) 0
-
-write-warned : (c : Core) (k : Clocks) (port byte : ℕ) → writeReply c k port byte .answered .warning ≡ writeWarning c (total k) port byte
-unfolding writeReplyOver unlessRefused
-write-warned c k port byte = pick-ap (λ (r : Reply). r .answered .warning) _ _ _
 
 module _ {M C : Type 0} (σ : Store M) (ω : Outside M C) where
   -- an entry's warning is that by a history which agrees with the system
@@ -246,8 +242,8 @@ module _ {M C : Type 0} (σ : Store M) (ω : Outside M C) where
       ∙ (λ i. writeWarning (a .world i .core) (a .sum i) port byte)
   entry-warned (portRead port) s p a = read-none (s .world .core) (s .clocks) port
   entry-warned (speedCall code) s p a = speed-none (s .world .core) (s .clocks) code
-  entry-warned (clockGrant n) s p a = grant-none σ s n
-  entry-warned (otherGrant n b wrong) s p a = grant-none σ (besideBuffers b s) n
+  entry-warned (clockGrant n) s p a = grant-plain σ s n .1
+  entry-warned (otherGrant n b wrong) s p a = grant-plain σ (besideBuffers b s) n .1
   entry-warned (outsideChange x) s p a = refl
 
   warnings-same : (es : List (Entry σ C)) (s : System M) (p : Past M) → Agree s p → warningsOf (run σ ω es s .answers) ≡ warningsAlong σ ω es p

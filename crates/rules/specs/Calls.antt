@@ -34,7 +34,7 @@ pub record AnswerOf (D M : Type 0) : Type 0 where
   pub answered : Answered
   pub system : SystemOf D M
 
--- accepted with a byte, and refused with a number, both without a warning
+-- accepted with a byte and refused with a number, without a warning
 abbrev pub accepted : ℕ → Answered
 accepted byte = record { number = 0; byte = byte; warning = noWarning }
 

@@ -10,7 +10,7 @@ use Rattle.rules.specs.Clock.{clockOf}
 use Rattle.rules.specs.Buffers.{Store}
 use Rattle.rules.specs.World.{System}
 use Rattle.rules.specs.Refusals.{accessRefusal, speedRefusal}
-use Rattle.rules.specs.Calls.{refused, writeReply, readReply, speedReply, grantNumber, grant}
+use Rattle.rules.specs.Calls.{writeReply, readReply, speedReply, grantNumber, grant}
 use Rattle.rules.specs.declared.Clocks.{Clocks}
 use Rattle.rules.specs.declared.Core.{Core}
 

@@ -119,7 +119,7 @@ session-runs xs =
       accounted = accounted;
       reached = λ b. every-reached (List ℕ) (List Poke) flat flatOutside zeros zeros (sessionEntries xs) (session-writes xs b);
       splits = λ b. accounted .splits (session-writes xs b);
-      warnings = warnings-noted _ _ flat flatOutside (replicate 65536 0) (replicate 65536 0) (sessionEntries xs);
+      warnings = warnings-noted (List ℕ) (List Poke) flat flatOutside zeros zeros (sessionEntries xs);
     }
 
 -- ---- the fault of a session

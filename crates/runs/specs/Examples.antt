@@ -34,7 +34,8 @@ pub record Example : Type 0 where
 abbrev pub example : List ℕ → String → ℕ → Example
 example bytes lines fault = record { bytes = bytes; lines = lines; fault = fault; first = 0; last = 0 }
 
--- records: a port write on a port below 256, and on 006B; a port read of a port whose low byte is 6B, a grant of fewer than 256 clocks
+-- records: a port write on a port below 256, and on 006B; a port read of a port whose low byte is 6B; a grant of fewer than
+-- 256 clocks
 abbrev pub writeTo : ℕ → ℕ → List ℕ
 writeTo port byte = 0 ∷ 4 ∷ 1 ∷ 0 ∷ port ∷ byte ∷ []
 
@@ -77,8 +78,9 @@ examples =
     ∷ example (1 ∷ writes (0x40 ∷ 0x23 ∷ 0x03 ∷ 0x40 ∷ 0xDF ∷ 0x40 ∷ 0x02 ∷ [])) "W 0\nW 0 !\nW 0\nW 0\nW 0 !\nW 0\nW 0\nB 0 0 0\n" 0
     -- WR4's modes 00, 01, 10 and 11; 00 and 11 in its other bits
     ∷ example (1 ∷ writes (0x81 ∷ 0xA1 ∷ 0xC1 ∷ 0xE1 ∷ 0xB1 ∷ 0xD1 ∷ [])) "W 0 !\nW 0\nW 0\nW 0 !\nW 0\nW 0\nB 0 0 0\n" 0
-    -- 03, 81 and E1 as an address, as a length and as the mask
-    ∷ example (1 ∷ writes (0x79 ∷ 0x03 ∷ 0x81 ∷ 0xE1 ∷ 0x03 ∷ 0xAD ∷ 0x81 ∷ 0x03 ∷ 0xBB ∷ 0x03 ∷ [])) "W 0\nW 0\nW 0\nW 0\nW 0\nW 0\nW 0\nW 0\nW 0\nW 0\nB 0 0 0\n" 0
+    -- 03, 81 and E1 as addresses, E1 and 03 as a length; 03, 81 and E1 as the mask
+    ∷ example (1 ∷ writes (0x79 ∷ 0x03 ∷ 0x81 ∷ 0xE1 ∷ 0x03 ∷ 0xAD ∷ 0x81 ∷ 0xE1 ∷ [])) "W 0\nW 0\nW 0\nW 0\nW 0\nW 0\nW 0\nW 0\nB 0 0 0\n" 0
+    ∷ example (1 ∷ writes (0xBB ∷ 0x03 ∷ 0xBB ∷ 0x81 ∷ 0xBB ∷ 0xE1 ∷ [])) "W 0\nW 0\nW 0\nW 0\nW 0\nW 0\nB 0 0 0\n" 0
     -- WR3, WR5 and WR6 with the same bits, and bytes that select no register
     ∷ example (1 ∷ writes (0x80 ∷ 0x82 ∷ 0x83 ∷ 0xE3 ∷ 0x86 ∷ 0xE2 ∷ [])) "W 0\nW 0\nW 0\nW 0\nW 0\nW 0\nB 0 0 0\n" 0
     -- refused for its port, and while the bus is held

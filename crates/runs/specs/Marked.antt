@@ -2,12 +2,14 @@
 -- Assumes nothing.
 use Prim.Native.Nat.{ℕ}
 use mathlib.Core.Path.{_≡_}
-use mathlib.Core.List.{List, [], _∷_}
+use mathlib.Core.List.{List, [], _∷_, _++_}
+use lib.Dec.{eqb}
+use Rattle.rules.specs.Choice.{pick}
 use Rattle.rules.specs.Calls.{Answered}
 use Rattle.records.specs.Records.{writeKind}
 use Rattle.lines.specs.Lines.{plainLine}
 use Rattle.session.specs.Steps.{answerLine}
-use Rattle.runs.specs.Sessions.{decoded, runOf}
+use Rattle.runs.specs.Sessions.{decoded, runOf, lastLine, session}
 use Rattle.records.specs.declared.Record.{Record}
 
 -- the line of a record by its answer: without a warning the one of before; where there is a warning the record is a port write
@@ -23,6 +25,15 @@ EachLine [] (a ∷ as′) = ⊥
 EachLine (r ∷ rs) [] = ⊥
 EachLine (r ∷ rs) (a ∷ as′) = LineOf r a × EachLine rs as′
 
--- so it is in every session
-abbrev pub SessionMarked : List ℕ → Type 0
-SessionMarked xs = EachLine (decoded xs .records) (runOf xs .answers)
+-- the lines of records by their answers, written out: W 0 ! where there is a warning, and else the one of before
+unfoldable pub markedLines : List Record → List Answered → List ℕ
+markedLines [] as′ = []
+markedLines (r ∷ rs) [] = []
+markedLines (r ∷ rs) (a ∷ as′) =
+    pick (eqb (a .warning) 0) (plainLine (r .number) (a .number) (a .byte)) (87 ∷ 32 ∷ 48 ∷ 32 ∷ 33 ∷ 10 ∷ [])
+    ++ markedLines rs as′
+
+-- so it is in every session, and these are the lines that it writes, with the last one behind them
+pub record SessionMarked (xs : List ℕ) : Type 0 where
+  pub each : EachLine (decoded xs .records) (runOf xs .answers)
+  pub lines : session xs .lines ≡ markedLines (decoded xs .records) (runOf xs .answers) ++ lastLine (decoded xs .fault) (runOf xs .system)

@@ -44,8 +44,9 @@ pub struct Device {
 pub struct WriteAnswer {
     // 0 for accepted, else the refusal number: 1, 2 or 3.
     pub number: u8,
-    // 0 for none, and for a refused write. An accepted byte holds a value that programs should not use: 1 a WR0 byte with AA of
-    // 10 or 11; 2 a timing byte, A's or B's, with bits 1-0 of 11; 3 a WR4 byte with a mode, bits 6-5, of 00 or 11.
+    // 0 for none, and for a refused write. Otherwise the byte, which was accepted, holds a value that programs should not use: 1
+    // a WR0 byte with AA of 10 or 11; 2 a timing byte, A's or B's, with bits 1-0 of 11; 3 a WR4 byte with a mode, bits 6-5, of
+    // 00 or 11.
     pub warning: u8,
     // The device afterwards.
     pub device: Device,

@@ -30,7 +30,8 @@ Runs a session. For each record it writes the record's number, the bench's own
 line and what it means; for a grant the moves with their clock, the first 16; at
 the end the clocks, the memory and latches that the DMA wrote, and what is left.
 Clocks are those of 28 MHz, at which a session runs: it has no word for the speed.
-A write of a discouraged value has ! in its line, and the words say what to use.
+A write of a value that programs should not use has ! in its line, and the words
+say what to use; it changes no exit status.
 Where something looks like a mistake there is advice: the reason, and what to do.
   --all        every move and every byte
   --lines      the bench's lines and nothing else

@@ -195,14 +195,16 @@ pub struct Device {
 }
 
 /// The warnings of a port write: the byte was accepted and holds a value that
-/// programs should not use. It acts all the same, as said below. Whether it is
-/// WR0, WR4 or a timing byte goes by what was pending as it was written.
+/// programs should not use. It acts all the same, as said below; a warning is no
+/// refusal, and has a field of its own. Whether the byte is WR0, WR4 or a timing
+/// byte goes by what was pending as it was written.
 pub mod warning {
     /// No such value, or a refused write.
     pub const NONE: u8 = 0;
     /// WR0 with bits 1-0 of 10 or 11: a transfer. Use 01.
     pub const OPERATION: u8 = 1;
-    /// A timing or B timing with bits 1-0 of 11: a cycle of 4. Use 00.
+    /// A timing or B timing with bits 1-0 of 11: a cycle of 4. Use 00, or 01 for
+    /// 3, 10 for 2.
     pub const TIMING: u8 = 2;
     /// WR4 with bits 6-5 of 00 or 11: continuous. Use 01, or 10 for burst.
     pub const MODE: u8 = 3;

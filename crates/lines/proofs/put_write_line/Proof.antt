@@ -1,4 +1,5 @@
--- By the warning: the line of a number, or the number with the mark behind it. Runs put one behind the other are put.
+-- By the warning: the line of a number, or the number with the mark behind it. Runs put one behind the other are their
+-- concatenation put.
 -- Assumes nothing.
 use mathlib.Core.Path.{ap}
 use Prim.Native.Nat.{ℕ}

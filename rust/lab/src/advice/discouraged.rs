@@ -33,7 +33,8 @@ pub fn advice_on(byte: u8, answer: &Answer) -> Option<Advice> {
             "WR4",
             "6-5",
             format!("it is {}, as 01 is", words::continuous_or_burst(is)),
-            "Write 01 there for continuous (AD), or 10 for burst (CD)",
+            "Write 01 there for continuous, or 10 for burst: AD and CD, if both bytes of B's address \
+             follow",
         ),
         _ => return None,
     };

@@ -1,9 +1,6 @@
 -- By whether a parameter is next.
 -- Assumes nothing.
 use borrow.Author.Needs.{needs}
-use mathlib.Core.Path.{sym, _∙_, ap}
-use Prim.Native.Nat.{ℕ}
-use Rattle.rules.specs.Warnings.{warningAs}
 use Rattle.parts.proofs.warning.of.Statement.{statement}
 use Rattle.parts.proofs.warning.of.Tie as tie
 
