@@ -4,14 +4,19 @@
 use Prim.Native.Nat.{ℕ, zero, suc}
 use mathlib.Core.Path.{_≡_, refl, sym, _∙_, ap}
 use mathlib.Core.Bool.{Bool}
+use mathlib.Core.Option.{none, some}
+use mathlib.Core.List.{[], _∷_}
+use lib.Dec.{ltb}
+use Rattle.rules.specs.Choice.{every}
 use Rattle.rules.specs.Parts.{withPending}
+use Rattle.rules.specs.Blocks.{blockCount, finished}
 use Rattle.rules.specs.Speed.{atSpeed}
 use Rattle.rules.specs.Slots.{busHeld, slotOf}
 use Rattle.rules.specs.Validity.{validCoreIf}
 use Rattle.rules.specs.Commands.{enable, readingCommand, command}
 use Rattle.rules.specs.Registers.{wr3, register, parameter, carriedOutAs}
 use Rattle.rules.specs.Readback.{registerByte, Byte, gives, readByte}
-use Rattle.rules.specs.Clock.{Clock, clock, movesAt, movedAt, kindAt, Ending, ending, slotEnd, clockEnd, begun, slotClock, clockOf, counted}
+use Rattle.rules.specs.Clock.{Clock, clock, restarted, stopped, movesAt, movedAt, kindAt, Ending, ending, slotEnd, clockEnd, begun, slotClock, clockOf, counted}
 use Rattle.rules.specs.Buffers.{Store, source, destination}
 use Rattle.rules.specs.World.{System, system, buffersAfter, stepCounted, clockedBy, clocked}
 use Rattle.rules.specs.Refusals.{accessRefusalIf}
@@ -97,8 +102,15 @@ module _ (n code : ℕ) where
 
   slot-end-aside : (c : Core) → PutEnding (slotEnd c) (slotEnd (put c))
   unfolding slotEnd
+  -- written out, since what stands at the blanks takes long to find
   slot-end-aside c =
-      both-picked PutEnding _ _ _ _ _ (λ e. both-picked PutEnding _ _ _ _ _ (λ d. refl) (λ d. refl)) (λ e. refl)
+      both-picked PutEnding (finished (c .block)) _ _ _ _
+      (λ e.
+      both-picked PutEnding (every (c .control .restart ∷ ltb 0 (blockCount (c .block)) ∷ []))
+      (ending (some (c .block .counter)) (restarted c)) (ending none (stopped c))
+      (ending (some (c .block .counter)) (restarted (put c))) (ending none (stopped (put c)))
+      (λ d. refl) (λ d. refl))
+      (λ e. refl)
 
   clock-end-aside : (m : ℕ) (c : Core) → PutEnding (clockEnd m c) (clockEnd m (put c))
   unfolding clockEnd

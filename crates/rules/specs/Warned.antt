@@ -39,11 +39,11 @@ abbrev pub warnedBytes : ℕ → List ℕ
 warnedBytes next = warnedBelow next 1 256 ∷ warnedBelow next 2 256 ∷ warnedBelow next 3 256 ∷ []
 
 pub record WarningExact : Type 0 where
-  -- 1: nothing is pending, and the byte is 0xxxxxAA, WR0, with AA of 10 or 11
+  -- 1: no parameter is next, and the byte is 0xxxxxAA, WR0, with AA of 10 or 11
   pub operation : (p byte : ℕ) → Exactly (warning p byte ≡ 1) ((next p ≡ 0) × (byte < 128) × ((byte % 4 ≡ 2) ⊎ (byte % 4 ≡ 3)))
   -- 2: A's or B's timing is next, bit 4 or bit 5 of what is pending, and bits 1-0 are 11
   pub timing : (p byte : ℕ) → Exactly (warning p byte ≡ 2) (((next p ≡ 16) ⊎ (next p ≡ 32)) × (byte % 4 ≡ 3))
-  -- 3: nothing is pending, and the byte is 1xxxxx01, WR4, with bits 6-5 of 00 or 11
+  -- 3: no parameter is next, and the byte is 1xxxxx01, WR4, with bits 6-5 of 00 or 11
   pub mode : (p byte : ℕ) → Exactly (warning p byte ≡ 3) ((next p ≡ 0) × (128 ≤ byte) × (byte % 4 ≡ 1) × ((byte / 32 % 4 ≡ 0) ⊎ (byte / 32 % 4 ≡ 3)))
   -- there is no other
   pub most : (p byte : ℕ) → warning p byte ≤ 3
@@ -53,7 +53,7 @@ pub record WarningExact : Type 0 where
   pub register : (p byte : ℕ) → next p ≡ 0 → (selects byte ≡ 0 → ⊥) → (selects byte ≡ 4 → ⊥) → warning p byte ≡ 0
   pub plain : (p byte : ℕ) → next p ≡ 0 → selects byte ≡ 0 → byte % 4 ≡ 1 → warning p byte ≡ 0
   pub idle : (p byte : ℕ) → next p ≡ 0 → selected byte ≡ 0 → warning p byte ≡ 0
-  -- counted over the 256 bytes: while nothing is pending; as A timing and as B timing; those without a warning as each of the
+  -- counted over the 256 bytes: while no parameter is next; as A timing and as B timing; those without a warning as each of the
   -- other parameters
   pub registers : warnedBytes nothing ≡ 64 ∷ 0 ∷ 16 ∷ []
   pub timings : (warnedBytes aTiming ≡ 0 ∷ 64 ∷ 0 ∷ []) × (warnedBytes bTiming ≡ 0 ∷ 64 ∷ 0 ∷ [])

@@ -21,7 +21,7 @@ timingWarning = 2
 abbrev pub modeWarning : ℕ
 modeWarning = 3
 
--- nothing is pending, and the byte selects the register with this number
+-- no parameter is next, and the byte selects the register with this number
 abbrev pub selectsNow : ℕ → ℕ → ℕ → Bool
 selectsNow number next byte = every (eqb next nothing ∷ eqb (selects byte) number ∷ [])
 
