@@ -14,9 +14,8 @@ use package.borrow.Author.Tests.{eqb-true, ne-eqb}
 use Rattle.rules.specs.Choice.{pick, every, any}
 use Rattle.rules.specs.Validity.{valid, total}
 use Rattle.rules.specs.World.{System, Move}
-use Rattle.rules.specs.Calls.{write, read}
 use Rattle.rules.proofs.Choice.{clash, either, pick-true, pick-false, all-true, every-stop, every-stop-later, every-at}
-use Rattle.examples.specs.Rows.{Action, fill, latch, send, sendAnswered, expect, expectRefused, speed, speedRefused, clocks, borrow, counts, memory, latches, pointers, counter, status, enabled, count, suppose, supposeCore, supposeCounts, clocksRefused, figure, changed, nextMove, Row, Seen, seen, same, answered, sendAll, expectAll, movesSo, perform, played, Failure, rowFailures, start, failures}
+use Rattle.examples.specs.Rows.{Action, fill, latch, send, sendAnswered, expect, expectRefused, speed, speedRefused, clocks, borrow, counts, memory, latches, pointers, counter, status, enabled, count, suppose, supposeCore, supposeCounts, clocksRefused, figure, changed, nextMove, Row, Seen, seen, same, sendOne, expectOne, inTurn, movesSo, perform, played, Failure, rowFailures, start, failures}
 use Rattle.examples.specs.Bites.{Other, OneOther, here, later, sendAccepted, sendUnwarned, sendNumber, sendWarning, speedAccepted, clocksAccepted, expectByte, expectRefusedNumber, speedRefusedNumber, borrowNumber, countsBus, countsHeld, countsCpu, memoryByte, latchesByte, pointersA, pointersB, counterHolds, statusByte, enabledOr, countIs, clocksRefusedNumber, figureIs, changedValid, moveFrom, moveFromIo, moveTo, moveToIo, moveByte, Bites, SendsSingly, TableBites, anyOf, expects, someExpects, allExpect, EveryRowExpects, ExpectsChangeable}
 
 -- ---- one value
@@ -47,36 +46,31 @@ same-bites _ _ [] (later x xs ys o) h = refl
 same-bites _ _ (z ∷ zs) (later x xs ys o) h =
     either (eqb x z) (λ e. pick-true _ _ _ e ∙ same-bites xs ys zs o (sym (pick-true _ _ _ e) ∙ h)) (λ e. pick-false _ _ _ e)
 
--- what was wrong stays wrong
-wrong-stays : (port : ℕ) (xs : List ℕ) (r : Seen) → r .right ≡ false → expectAll port xs r .right ≡ false
-unfolding expectAll
-wrong-stays port [] r h = h
-wrong-stays port (x ∷ xs) r h = wrong-stays port xs _ (every-stop _ _ h)
+-- ---- bytes one after the other
 
-right-before : (port : ℕ) (xs : List ℕ) (r : Seen) → expectAll port xs r .right ≡ true → r .right ≡ true
-right-before port xs r h = either (r .right) (λ e. e) (λ e. clash (sym (wrong-stays port xs r e) ∙ h))
+module _ (f : ℕ → Seen → Seen) (keeps : (x : ℕ) (r : Seen) → r .right ≡ false → f x r .right ≡ false) where
+  -- what was wrong stays wrong
+  wrong-stays : (xs : List ℕ) (r : Seen) → r .right ≡ false → inTurn f xs r .right ≡ false
+  unfolding inTurn
+  wrong-stays [] r h = h
+  wrong-stays (x ∷ xs) r h = wrong-stays xs (f x r) (keeps x r h)
 
-reads-bite : (port : ℕ) (xs ys : List ℕ) (r : Seen) → OneOther xs ys → expectAll port xs r .right ≡ true → expectAll port ys r .right ≡ false
-unfolding expectAll
+  right-before : (xs : List ℕ) (r : Seen) → inTurn f xs r .right ≡ true → r .right ≡ true
+  right-before xs r h = either (r .right) (λ e. e) (λ e. clash (sym (wrong-stays xs r e) ∙ h))
+
+reads-bite : (port : ℕ) (xs ys : List ℕ) (r : Seen) → OneOther xs ys → inTurn (expectOne port) xs r .right ≡ true → inTurn (expectOne port) ys r .right ≡ false
+unfolding inTurn
 reads-bite port _ _ r (here x y xs o) h =
-    let e = all-true _ (right-before port xs (answered 0 x 0 r (read (r .system) port)) h) in
-    wrong-stays port xs _
-    (every-at 2 _ (other-number _ x y o (e .1 .1 .0)))
-reads-bite port _ _ r (later x xs ys o) h = reads-bite port xs ys (answered 0 x 0 r (read (r .system) port)) o h
-
--- ---- a send
-
-send-wrong-stays : (port : ℕ) (xs : List ℕ) (r : Seen) → r .right ≡ false → sendAll port xs r .right ≡ false
-unfolding sendAll
-send-wrong-stays port [] r h = h
-send-wrong-stays port (x ∷ xs) r h = send-wrong-stays port xs _ (every-stop _ _ h)
+    let e = all-true _ (right-before (expectOne port) (λ x r h. every-stop _ _ h) xs (expectOne port x r) h) in
+    wrong-stays (expectOne port) (λ x r h. every-stop _ _ h) xs _ (every-at 2 _ (other-number _ x y o (e .1 .1 .0)))
+reads-bite port _ _ r (later x xs ys o) h = reads-bite port xs ys (expectOne port x r) o h
 
 pub sends-singly : SendsSingly
-unfolding perform sendAll
+unfolding perform inTurn
 sends-singly port byte bytes s h =
-    let a : Seen = answered 0 0 0 (seen true s) (write s port byte) in
-    let t : a .right ≡ true = either (a .right) (λ e. e) (λ e. clash (sym (send-wrong-stays port bytes a e) ∙ h)) in
-    (t, sym (λ i. sendAll port bytes (seen (t i) (a .system)) .right) ∙ h)
+    let a : Seen = sendOne port byte (seen true s) in
+    let t = right-before (sendOne port) (λ x r h. every-stop _ _ h) bytes a h in
+    (t, sym (λ i. inTurn (sendOne port) bytes (seen (t i) (a .system)) .right) ∙ h)
 
 -- ---- a move
 
@@ -115,7 +109,7 @@ second-of : (n m : ℕ) (t : Bool) (ts : List Bool) (k : ℕ) → Other n m → 
 second-of n m t ts k o h = every-stop-later _ _ (every-stop _ _ (other-number k n m o (all-true _ h .1 .0)))
 
 pub bites : Bites
-unfolding perform sendAll
+unfolding perform inTurn
 bites _ _ s (sendAccepted port byte m o) h = second-of 0 m _ _ _ o h
 bites _ _ s (sendUnwarned port byte m o) h = every-at 3 _ (other-number _ 0 m o (all-true _ h .1 .1 .1 .0))
 bites _ _ s (sendNumber port byte n w m o) h = second-of n m _ _ _ o h

@@ -114,13 +114,17 @@ compared number byte warning a =
 abbrev pub answered : ℕ → ℕ → ℕ → Seen → Answer (List ℕ) → Seen
 answered number byte warning r a = seen (every (r .right ∷ compared number byte warning a)) (a .system)
 
-unfoldable pub sendAll : ℕ → List ℕ → Seen → Seen
-sendAll port [] r = r
-sendAll port (x ∷ xs) r = sendAll port xs (answered 0 0 0 r (write (r .system) port x))
+-- a write of a byte to a port that is accepted without a warning, and a read of a port that gives a byte
+abbrev pub sendOne : ℕ → ℕ → Seen → Seen
+sendOne port x r = answered 0 0 0 r (write (r .system) port x)
 
-unfoldable pub expectAll : ℕ → List ℕ → Seen → Seen
-expectAll port [] r = r
-expectAll port (x ∷ xs) r = expectAll port xs (answered 0 x 0 r (read (r .system) port))
+abbrev pub expectOne : ℕ → ℕ → Seen → Seen
+expectOne port x r = answered 0 x 0 r (read (r .system) port)
+
+-- so with bytes one after the other
+unfoldable pub inTurn : (ℕ → Seen → Seen) → List ℕ → Seen → Seen
+inTurn f [] r = r
+inTurn f (x ∷ xs) r = inTurn f xs (f x r)
 
 -- this many bytes have moved and the block has ended
 abbrev pub supposed : ℕ → Core → Core
@@ -143,9 +147,9 @@ perform (fill at bytes) s =
     seen true (withBuffers (placed at bytes (s .world .buffers .memory)) (s .world .buffers .latches) s)
 perform (latch at bytes) s =
     seen true (withBuffers (s .world .buffers .memory) (placed at bytes (s .world .buffers .latches)) s)
-perform (send port bytes) s = sendAll port bytes (seen true s)
+perform (send port bytes) s = inTurn (sendOne port) bytes (seen true s)
 perform (sendAnswered port byte number warning) s = answered number 0 warning (seen true s) (write s port byte)
-perform (expect port bytes) s = expectAll port bytes (seen true s)
+perform (expect port bytes) s = inTurn (expectOne port) bytes (seen true s)
 perform (expectRefused port number) s = answered number 0 0 (seen true s) (read s port)
 perform (speed code) s = answered 0 0 0 (seen true s) (setSpeed s code)
 perform (speedRefused code number) s = answered number 0 0 (seen true s) (setSpeed s code)

@@ -15,7 +15,7 @@ use Rattle.rules.specs.Choice.{pick}
 use Rattle.rules.specs.Buffers.{placed}
 use Rattle.rules.proofs.Choice.{pick-true, pick-false, pick-both}
 use Rattle.rules.specs.declared.Clocks.{Clocks}
-use Rattle.lines.specs.Lines.{decimalTo, decimal, numberLine, writeLine, readLine, recordLine, plainLine, LinesMarked, countsLine, Put, PutLine}
+use Rattle.lines.specs.Lines.{decimalTo, decimal, numberLine, writeLine, readLine, recordLine, markedLine, plainLine, LinesMarked, countsLine, Put, PutLine}
 
 placed-append : (at : ℕ) (xs ys l : List ℕ) → placed (at + length xs) ys (placed at xs l) ≡ placed at (xs ++ ys) l
 unfolding placed
@@ -141,7 +141,7 @@ counts-room k =
 
 -- ---- the mark
 
-mark-warned : (byte warning : ℕ) → (warning ≡ 0 → ⊥) → recordLine 1 0 byte warning ≡ 87 ∷ 32 ∷ 48 ∷ 32 ∷ 33 ∷ 10 ∷ []
+mark-warned : (byte warning : ℕ) → (warning ≡ 0 → ⊥) → recordLine 1 0 byte warning ≡ markedLine
 unfolding recordLine writeLine decimalTo pick
 mark-warned byte warning f = simp (ne-eqb _ _ f)
 

@@ -50,7 +50,11 @@ recordLine kind number byte warning =
     (pick (eqb kind readKind) (readLine number byte)
     (pick (eqb kind grantKind) (numberLine 71 number) (numberLine 77 number)))
 
--- the same as it was before there were warnings
+-- W, a space, 0, a space, an exclamation mark and a line feed
+abbrev pub markedLine : List ℕ
+markedLine = 87 ∷ 32 ∷ 48 ∷ 32 ∷ 33 ∷ 10 ∷ []
+
+-- a record's line as it was before there were warnings
 unfoldable pub plainLine : ℕ → ℕ → ℕ → List ℕ
 plainLine kind number byte =
     pick (eqb kind writeKind) (numberLine 87 number)
@@ -59,8 +63,8 @@ plainLine kind number byte =
 
 -- where a line has the mark, and that no other line has changed
 pub record LinesMarked : Type 0 where
-  -- a port write that is accepted with a warning: W, a space, 0, a space, an exclamation mark and a line feed
-  pub marked : (byte warning : ℕ) → (warning ≡ 0 → ⊥) → recordLine writeKind 0 byte warning ≡ 87 ∷ 32 ∷ 48 ∷ 32 ∷ 33 ∷ 10 ∷ []
+  -- a port write that is accepted with a warning
+  pub marked : (byte warning : ℕ) → (warning ≡ 0 → ⊥) → recordLine writeKind 0 byte warning ≡ markedLine
   -- without a warning, and of every other kind whatever it is handed, the line of before
   pub unmarked : (kind number byte : ℕ) → recordLine kind number byte 0 ≡ plainLine kind number byte
   pub others : (kind number byte warning : ℕ) → (kind ≡ writeKind → ⊥) → recordLine kind number byte warning ≡ plainLine kind number byte

@@ -9,7 +9,7 @@ use lib.ListN.{length}
 use borrow.Author.Tests.{eq-eqb}
 use Rattle.rules.specs.Buffers.{Store}
 use Rattle.rules.specs.World.{System}
-use Rattle.rules.specs.Calls.{Answer, grant, grantOver}
+use Rattle.rules.specs.Calls.{grant}
 use Rattle.rules.specs.Entries.{Outside, Entry, clockGrant, Run, enter, run, systemAtPowerOn, runOver}
 use Rattle.rules.specs.History.{Past, notedUnless, clockPassed, clocksPassed, grantPassed, noteEntry, history, pastAtPowerOn, clocksPassedBy, historyBy}
 use Rattle.rules.specs.Splitting.{sumOf, AcceptedInTurn, grants, acceptedAnswers, SplitsWithin}

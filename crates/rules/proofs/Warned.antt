@@ -19,7 +19,7 @@ use Rattle.rules.specs.Clock.{Clock}
 use Rattle.rules.specs.Buffers.{Store}
 use Rattle.rules.specs.World.{SystemOf, System}
 use Rattle.rules.specs.Refusals.{accessRefusal}
-use Rattle.rules.specs.Calls.{ReplyOf, Reply, AnswerOf, Answer, unlessRefused, writeReply, readReply, speedReply, grant, writeReplyOver, readReplyOver, speedReplyOver, grantOver}
+use Rattle.rules.specs.Calls.{ReplyOf, Reply, AnswerOf, unlessRefused, writeReply, readReply, speedReply, writeReplyOver, readReplyOver, speedReplyOver, grantOver}
 use Rattle.rules.specs.Exactly.{Exactly, selected}
 use Rattle.rules.specs.Entries.{Outside, Entry, portWrite, portRead, speedCall, clockGrant, otherGrant, outsideChange, enterOver, runOver, run, enter, besideBuffers, systemAtPowerOn}
 use Rattle.rules.specs.History.{Past, notedUnless, noteEntry, pastAtPowerOn}
@@ -28,7 +28,7 @@ use Rattle.rules.specs.Warned.{warnedBelow, unwarned, warnedBytes, Warni
 use Rattle.rules.specs.Opened.{opened}
 use Rattle.rules.specs.declared.Clocks.{Clocks}
 use Rattle.rules.specs.declared.Core.{Core}
-use Rattle.rules.proofs.Choice.{pick-true, pick-false, pick-cases, pick-both, pick-ap, both-picked, either, table, below, _⨾_, row-passed, row-taken, shows, every-at, all-true, true-all, any-first, any-more, any-cases, any-none}
+use Rattle.rules.proofs.Choice.{pick-true, pick-false, pick-both, pick-ap, both-picked, either, table, below, _⨾_, row-passed, row-taken, shows, every-at, all-true, true-all, any-first, any-more, any-cases, any-none}
 use Rattle.rules.proofs.Selection.{idle, wr0-exact, wr4-exact}
 use Rattle.rules.proofs.Calls.{grant-plain}
 use Rattle.rules.proofs.Refusing.{write-number}

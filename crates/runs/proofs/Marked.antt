@@ -14,7 +14,7 @@ use Rattle.rules.specs.Entries.{Poke, flatOutside, Entry, enter, runOver, run}
 use Rattle.rules.proofs.Choice.{pick-cases}
 use Rattle.rules.proofs.Warned.{warning-answered}
 use Rattle.records.specs.declared.Record.{Record}
-use Rattle.lines.specs.Lines.{recordLine, plainLine}
+use Rattle.lines.specs.Lines.{recordLine, markedLine, plainLine}
 use Rattle.lines.proofs.Lines.{lines-marked}
 use Rattle.session.specs.Effects.{entryOf, effect}
 use Rattle.session.specs.Steps.{answerLine}
@@ -56,7 +56,7 @@ each-line xs [] s = tt
 each-line xs (r ∷ rs) s = (line-of xs r s, each-line xs rs (effect xs r s .system))
 
 -- a line written out
-line-as : (r : Record) (a : Answered) → LineOf r a → answerLine r a ≡ pick (eqb (a .warning) 0) (plainLine (r .number) (a .number) (a .byte)) (87 ∷ 32 ∷ 48 ∷ 32 ∷ 33 ∷ 10 ∷ [])
+line-as : (r : Record) (a : Answered) → LineOf r a → answerLine r a ≡ pick (eqb (a .warning) 0) (plainLine (r .number) (a .number) (a .byte)) markedLine
 line-as r a l =
     pick-cases (λ (xs : List ℕ). answerLine r a ≡ xs) _ _ _
     (λ t. l .plain (eqb-true _ _ t))
