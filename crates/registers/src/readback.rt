@@ -1,6 +1,6 @@
 // What a port read gives.
 ghost use mathlib.Core.Path.{_≡_};
-ghost use Rattle.rules.specs.Bytes.{bit, lowByte, highByte};
+ghost use Rattle.rules.specs.Bytes.{lowByte, highByte};
 ghost use Rattle.rules.specs.Readback.{statusByte, registerByte, after, chosen, readByte};
 ghost use Rattle.registers.specs.Answers.{given};
 use rules::Core;
@@ -87,32 +87,11 @@ fn next_register(k: u8) -> u8
     0
 }
 
-// Register `k` is in the mask.
-fn in_mask(mask: u8, k: u8) -> bool
-    ensures { λ r. ⌜ r ≡ bit k mask ⌝ }
-{
-    if 7 < k {
-        return false;
-    }
-    (mask >> k) % 2 == 1
-}
-
-// The first register in the mask at or after the position: seven places are tried, and the loop yields the register.
+// The first register in the mask at or after the position.
 pub fn first_in_mask(mask: u8, position: u8) -> u8
     ensures { λ r. ⌜ r ≡ chosen mask position ⌝ }
 {
-    let mut k = position;
-    let mut left: u8 = 7;
-    loop {
-        if left == 0 {
-            break k;
-        }
-        if in_mask(mask, k) {
-            break k;
-        }
-        k = next_register(k);
-        left -= 1;
-    }
+    mask::first_register(mask, position)
 }
 
 // An accepted read.

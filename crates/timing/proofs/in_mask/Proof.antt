@@ -3,8 +3,8 @@
 use Rattle.rules.proofs.Bytes.{bit-above}
 use mathlib.Core.Path.{sym}
 use borrow.Author.Needs.{needs}
-use Rattle.registers.proofs.readback.in_mask.Statement.{statement}
-use Rattle.registers.proofs.readback.in_mask.Tie as tie
+use Rattle.timing.proofs.in_mask.Statement.{statement}
+use Rattle.timing.proofs.in_mask.Tie as tie
 
 returns : tie.Need-returns
 returns c = sym (bit-above _ _ (c .if1 .taken) (search needs))

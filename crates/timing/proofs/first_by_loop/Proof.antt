@@ -6,8 +6,8 @@ use Rattle.rules.specs.Readback.{seek, chosen}
 use native.Mathlib.Omega.{arith}
 use borrow.Author.Needs.{needs}
 use mathlib.Core.Path.{_≡_, refl, sym, _∙_}
-use Rattle.registers.proofs.readback.first_in_mask.Statement.{statement}
-use Rattle.registers.proofs.readback.first_in_mask.Tie as tie
+use Rattle.timing.proofs.first_by_loop.Statement.{statement}
+use Rattle.timing.proofs.first_by_loop.Tie as tie
 
 abbrev Inv-loop : tie.InvT-loop
 Inv-loop mask position k₀ left₀ k left = seek left mask k ≡ chosen mask position
@@ -41,8 +41,8 @@ returns c = sym (seek-end _ _ _ (c .if1 .taken)) ∙ c .before .loop .inv
 returns-2 : tie.Need-returns-2 Inv-loop μ-loop
 returns-2 c = sym (seek-here _ _ _ (sym (c .before .in-mask .ensures) ∙ c .if2 .taken)) ∙ c .before .before .before .loop .inv
 
-pub first-in-mask-spec : {M : Type 1} → statement M
-first-in-mask-spec =
+pub first-by-loop-spec : {M : Type 1} → statement M
+first-by-loop-spec =
     tie.close
     (tie.spec
     Inv-loop

@@ -1,0 +1,69 @@
+-- The invariant: the sum so far and the sum of the places left make the whole. The measure is the number of places left.
+-- Assumes nothing.
+use Prim.Native.Nat.{_-_}
+use borrow.Author.Needs.{needs}
+use Rattle.timing.proofs.Sums.{Going, going-start, going-more, going-end}
+use Rattle.timing.proofs.timing_loop.Statement.{statement}
+use Rattle.timing.proofs.timing_loop.Tie as tie
+
+abbrev Inv-loop : tie.InvT-loop
+Inv-loop places sum₀ i₀ i-end sum i = Going places i-end sum i
+
+abbrev μ-loop : tie.MeasureT-loop
+μ-loop places sum₀ i₀ i-end sum i = i-end - i
+
+loop-holds : tie.Need-loop-holds Inv-loop μ-loop
+loop-holds c = going-start _
+
+mul-place : tie.Need-mul-place Inv-loop μ-loop
+mul-place c = search needs
+
+shared-slice-read-place : tie.Need-shared-slice-read-place Inv-loop μ-loop
+shared-slice-read-place c = search needs
+
+cast-first-by-loop : tie.Need-cast-first-by-loop Inv-loop μ-loop
+cast-first-by-loop c = search needs
+
+cast-first-by-loop-2 : tie.Need-cast-first-by-loop-2 Inv-loop μ-loop
+cast-first-by-loop-2 c = search needs
+
+first-by-loop-requires : tie.Need-first-by-loop-requires Inv-loop μ-loop
+first-by-loop-requires c κs = search needs
+
+cast-wrapping-add-u64 : tie.Need-cast-wrapping-add-u64 Inv-loop μ-loop
+cast-wrapping-add-u64 c = search needs
+
+wrapping-add-u64-requires : tie.Need-wrapping-add-u64-requires Inv-loop μ-loop
+wrapping-add-u64-requires c κs = search needs
+
+add-i : tie.Need-add-i Inv-loop μ-loop
+add-i c = search needs
+
+loop-less : tie.Need-loop-less Inv-loop μ-loop
+loop-less c = search needs
+
+loop-again : tie.Need-loop-again Inv-loop μ-loop
+loop-again c = rw (c .wrapping-add-u64 .ensures)
+    (going-more _ _ _ _ _ (c .before .before .before .before .loop .inv) (c .before .before .before .loop-test .taken) (c .before .first-by-loop .ensures))
+
+returns : tie.Need-returns Inv-loop μ-loop
+returns c = going-end _ _ _ _ (c .before .loop .inv) (c .loop-test .left)
+
+pub timing-loop-spec : {M : Type 1} → statement M
+timing-loop-spec =
+    tie.close
+    (tie.spec
+    Inv-loop
+    μ-loop
+    loop-holds
+    mul-place
+    shared-slice-read-place
+    cast-first-by-loop
+    cast-first-by-loop-2
+    first-by-loop-requires
+    cast-wrapping-add-u64
+    wrapping-add-u64-requires
+    add-i
+    loop-less
+    loop-again
+    returns)
