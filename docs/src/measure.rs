@@ -54,9 +54,10 @@ Required are:
 
 With --calls a tool can count the library's instructions: the difference of two
 runs, divided by that of their calls, is one call with the loop around it. The
-kinds are write, read, grant0, grant1, grant1-continuous, grant20-burst,
-grant20-continuous, grant20-disabled, grant4g-disabled and music. A grant whose
-kind names no mode is to a disabled device. A call of music is the whole block.
+kinds are write, read, read-status, grant0, grant1, grant1-continuous,
+grant20-burst, grant20-continuous, grant20-disabled, grant4g-disabled and music.
+A grant whose kind names no mode is to a disabled device. A call of music is the
+whole block.
 
 Exit status: 0 done; 1 a requirement is not met; 2 bad arguments.
 ";
@@ -533,7 +534,7 @@ impl Kind {
 }
 
 /// Those that the second program can take too.
-fn kinds() -> [Kind; 8] {
+fn kinds() -> [Kind; 9] {
     let kind = |name, what, start, call| Kind { name, what, start, call };
     let disabled = model::power_on();
     let burst = transferring(&[0x22, 1], 0xCD);
@@ -541,6 +542,7 @@ fn kinds() -> [Kind; 8] {
     [
         kind("write", "port writes, every register", disabled, Call::Write),
         kind("read", "port reads, round the mask", waiting(), Call::Read),
+        kind("read-status", "port reads, the status alone", status_alone(), Call::Read),
         kind("grant0", "grants of 0 clocks, disabled", disabled, Call::Grant(0)),
         kind("grant1", "grants of 1 clock, disabled", disabled, Call::Grant(1)),
         kind("grant1-continuous", "grants of 1 clock, continuous", continuous, Call::Grant(1)),
@@ -565,11 +567,15 @@ fn transferring(b_timing: &[u8], wr4: u8) -> model::Device {
     let registers = [0x7D, 0x00, 0x10, 0x00, 0x10, 0x54, 0x02, 0x50];
     let bytes = [&registers, b_timing, &[wr4, 0x00, 0x20, 0xA2, 0xCF, 0x87]].concat();
     let mut device = model::power_on();
-    for byte in bytes {
-        let (number, _) = model::write(&mut device, PORT, byte);
+    send(&mut device, &bytes);
+    device
+}
+
+fn send(device: &mut model::Device, bytes: &[u8]) {
+    for &byte in bytes {
+        let (number, _) = model::write(device, PORT, byte);
         assert_eq!(number, 0, "the bus is free until the last byte");
     }
-    device
 }
 
 /// In the wait of a burst slot, with a byte moved.
@@ -577,6 +583,14 @@ fn waiting() -> model::Device {
     let mut device = transferring(&[0x22, 55], 0xCD);
     let mut lent = Buffers::zero();
     assert_eq!(device.grant(&mut lent, 10), 0, "a valid device, and room for its clocks");
+    device
+}
+
+/// The same with the status alone in the mask: after each read the search for the
+/// next register goes all the way round.
+fn status_alone() -> model::Device {
+    let mut device = waiting();
+    send(&mut device, &[0xBB, 0x01]);
     device
 }
 

@@ -1,7 +1,7 @@
 //! A module: how a program takes its words, answers `--help` and ends.
 //!
-//! `compare.rs`, `layout.rs`, `measure.rs`, `states.rs`, `stepping.rs` and
-//! `timings.rs` include it.
+//! `compare.rs`, `layout.rs`, `measure.rs`, `seek.rs`, `states.rs`, `stepping.rs`
+//! and `timings.rs` include it.
 
 #![forbid(unsafe_code)]
 

@@ -7,9 +7,10 @@
 //! sessions of a seed are those that `compare.rs` makes of it. What the grants, the
 //! writes in burst waits and the speed calls came to is counted, and so are the
 //! warnings and the numbers of pending parameters that came. It also tries all
-//! 65,536 of these, every byte with those that are valid, all codes of the speed
-//! and a slot's figures about all that are valid, and sees that the second program
-//! stops where a slot would begin with its block finished.
+//! 65,536 of these, every byte with those that are valid, reads by all masks from
+//! all positions, all codes of the speed and a slot's figures about all that are
+//! valid, and sees that the second program stops where a slot would begin with its
+//! block finished.
 //!
 //! Built by `rustc --edition 2021 -O -L native=target/staticlib states.rs`,
 //! from this folder or with its path; `states --help` says how it is run.
@@ -72,6 +73,9 @@ For each seed it tries, on devices that are valid otherwise:
   number stands for no sequence; each byte is written to a device with each other
   number, by both ports: as many writes as the rules allow must have each warning;
   and again where it must be refused with 1, 2 or 3 and have none;
+- reads by each mask from each position, 0 to 255, with a status read waiting and
+  without: the answer must be 1 where the mask is above 127 or the position above
+  6, else 0;
 - each speed code in a device with each: the answer must be 1 where the device's
   is above 3, else 7 where the call's is, else 0;
 - bus times up to 70 with lengths up to 8300 in a running slot: as many as the
@@ -1345,6 +1349,37 @@ fn refused_writes(
     Ok(cases.len() as u32)
 }
 
+// ---- Every mask and position ---------------------------------------------
+
+/// Reads by each mask from each position, in devices that are valid otherwise
+/// and leave the bus free, with a status read waiting and without.
+fn every_mask(bench: &mut Bench, seed: u64) -> Result<(), String> {
+    let mut rng = Rng::new(seed);
+    let (mut accepted, mut refused) = (0, 0);
+    for mask in 0..=u8::MAX {
+        for position in 0..=u8::MAX {
+            for waiting in [false, true] {
+                let mut device = valid_device(&mut rng);
+                (device.core.enabled, device.core.slot) = (false, NO_SLOT);
+                device.core.readback = Readback { mask, position, waiting };
+                let call = Call::Read { port: 0x006B };
+                let place = |case| format!("seed {}, {:?}: {}", seed, device.core.readback, case);
+                let (answer, _) = bench.answer(device, call).map_err(place)?;
+                match answer.number {
+                    0 if mask <= 127 && position <= 6 => accepted += 1,
+                    1 if mask > 127 || position > 6 => refused += 1,
+                    number => return Err(place(format!("a read gives the number {}", number))),
+                }
+            }
+        }
+    }
+    println!(
+        "states: seed {}: reads by each mask from each position: {} accepted, {} refused with 1",
+        seed, accepted, refused
+    );
+    Ok(())
+}
+
 // ---- Every speed code, and every slot ------------------------------------
 
 /// Sets the speed by each code, in a device with each, valid otherwise.
@@ -1546,6 +1581,7 @@ fn compare(options: &Options) -> Result<String, String> {
     println!("states: {} stored sessions", paths.len());
     for &seed in seeds {
         every_number(&mut bench, seed)?;
+        every_mask(&mut bench, seed)?;
         every_code(&mut bench, seed)?;
         every_slot(&mut bench, seed)?;
         finished_devices(&mut bench, seed)?;

@@ -1,6 +1,6 @@
--- A table's rule is a test of each entry, computed. With such a table the search by bits gives the register that the rules'
--- search gives: computed at every mask and every position that a register has; and at every mask beyond them, where the rules'
--- search goes on from register 0 with six places left.
+-- A table's rule is a test of each entry, computed. With such a table the search by bits is the rules' search: at the seven
+-- positions that a register has by a test of every mask and position, computed; at any other because the rules' search goes on at
+-- register 0 with six places left, by a test of every mask.
 -- Assumes nothing.
 use Prim.Native.Nat.{ℕ, _*_, _/_, _%_, _^_, _<_, _≤_}
 use native.Mathlib.Omega.{arith}
@@ -27,11 +27,11 @@ is-entry table position = eqb (table / 2 ^ (8 * position) % 256) (atOrAfter posi
 -- each entry is the registers at or after its position
 unfoldable pub ruled : ℕ → Bool
 unfolding is-entry
-ruled table = allBelow 8 (is-entry table)
+ruled table = allBelow 7 (is-entry table)
 
-pub entry : (table : ℕ) → ruled table ≡ true → (position : ℕ) → position < 8 → table / 2 ^ (8 * position) % 256 ≡ atOrAfter position
+pub entry : (table : ℕ) → ruled table ≡ true → (position : ℕ) → position < 7 → table / 2 ^ (8 * position) % 256 ≡ atOrAfter position
 unfolding ruled is-entry
-entry table e position p = eqb-true _ _ (below-at 8 (is-entry table) e position p)
+entry table e position p = eqb-true _ _ (below-at 7 (is-entry table) e position p)
 
 -- ---- at a position that a register has
 
@@ -69,9 +69,9 @@ found-nowhere mask position bits m p e none empty =
 
 -- ---- at a position that no register has
 
--- only 7 can be in a mask
-pub found-seventh : (mask position : ℕ) → mask < 256 → 127 < mask → position ≡ 7 → 7 ≡ chosen mask position
-found-seventh mask position m h is =
+-- of these only 7 can be in a mask
+pub found-at-7 : (mask position : ℕ) → mask < 256 → 127 < mask → position ≡ 7 → 7 ≡ chosen mask position
+found-at-7 mask position m h is =
     sym is ∙ sym (seek-here 7 mask position (ap (λ (k : ℕ). bit k mask) is ∙ eq-eqb (mask / 128 % 2) 1 (omega (arith, m, h))))
 
 unset : (mask position : ℕ) → mask < 256 → 7 ≤ position → (position ≡ 7 → mask ≤ 127) → bit position mask ≡ false

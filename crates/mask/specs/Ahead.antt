@@ -2,6 +2,6 @@
 -- Assumes nothing.
 use Prim.Native.Nat.{ℕ, _-_, _^_}
 
--- as bits of a mask: the seven registers have those below 128, and the ones before the position those below 2 to its power
+-- as a mask: all seven are 127, and those before the position 2 to its power, less 1; this is the difference
 unfoldable pub atOrAfter : ℕ → ℕ
 atOrAfter position = 128 - 2 ^ position

@@ -5,45 +5,47 @@ ghost use lib.Count.{trailingZeros};
 ghost use Rattle.rules.specs.Readback.{chosen};
 ghost use Rattle.mask.specs.Ahead.{atOrAfter};
 
-// By the position: the registers at or after it, as bits of a mask. The entries are bytes, that of position 0 the lowest. An
-// array would be built anew in memory at each call.
-const AT_OR_AFTER: u64 = 0x00_40_60_70_78_7C_7E_7F;
+// By the position: the registers at or after it, as bits of a mask. The seven entries are bytes of a number, that of position 0
+// the lowest. An array would be built anew in memory at each call.
+const AT_OR_AFTER: u64 = 0x40_60_70_78_7C_7E_7F;
 
 // The entry of a position.
 fn at_or_after(position: u8) -> u8
-    requires { ⌜ position < 8 ⌝ }
+    requires { ⌜ position < 7 ⌝ }
     ensures { λ r. ⌜ r ≡ atOrAfter position ⌝ }
 {
     ((AT_OR_AFTER >> (8 * position)) % 256) as u8
 }
 
-// The lowest bit that is set.
+// The number of the lowest bit that is set; 8 where none is.
 fn lowest(bits: u8) -> u8
     ensures { λ r. ⌜ r ≡ trailingZeros 8 bits ⌝ }
 {
     u8::trailing_zeros(bits) as u8
 }
 
-// The first register in the mask at or after the position, going round. An empty mask gives the position.
+// The first register in the mask at or after the position, going round. With none in it: the position, or 6 from a position
+// that no register has.
 pub fn first_register(mask: u8, position: u8) -> u8
     ensures { λ r. ⌜ r ≡ chosen mask position ⌝ }
 {
-    let registers = mask % 128;
     if position < 7 {
         let ahead = mask & at_or_after(position);
         if ahead != 0 {
             return lowest(ahead);
         }
+        let registers = mask % 128;
         if registers != 0 {
             return lowest(registers);
         }
         return position;
     }
-    // No register has such a position. Only 7 can be in a mask; after it come registers 0 to 5 and, in the mask or not, 6.
+    // No register has such a position. 7 is in a mask with bit 7. Else the search goes on at register 0 and ends at 6, whether
+    // or not the mask has it.
     if position == 7 {
         if 127 < mask {
             return 7;
         }
     }
-    lowest(registers | 64)
+    lowest((mask % 128) | 64)
 }

@@ -45,16 +45,16 @@ fn first_by_loop(mask: u8, position: u8) -> u8
     }
 }
 
-// Searches by the loop at every place of a list, a mask in the high byte and a position in the low one. The registers found are
+// Searches by the loop at every pair of a list, a mask in the high byte and a position in the low one. The registers found are
 // summed, modulo 2 to the power of 64.
 #[no_mangle]
-pub extern "C" fn timing_loop(places: &[u16]) -> u64
-    ensures { λ r. ⌜ r ≡ sum (now (places .entry)) % 2 ^ 64 ⌝ }
+pub extern "C" fn timing_loop(pairs: &[u16]) -> u64
+    ensures { λ r. ⌜ r ≡ sum (now (pairs .entry)) % 2 ^ 64 ⌝ }
 {
     let mut sum: u64 = 0;
-    for i in 0..places.len() {
-        let place = places[i];
-        let register = first_by_loop((place / 256 % 256) as u8, (place % 256) as u8);
+    for i in 0..pairs.len() {
+        let pair = pairs[i];
+        let register = first_by_loop((pair / 256 % 256) as u8, (pair % 256) as u8);
         sum = std::num::wrapping_add_u64(sum, register as u64);
     }
     sum
@@ -62,13 +62,13 @@ pub extern "C" fn timing_loop(places: &[u16]) -> u64
 
 // The same searches by the library.
 #[no_mangle]
-pub extern "C" fn timing_library(places: &[u16]) -> u64
-    ensures { λ r. ⌜ r ≡ sum (now (places .entry)) % 2 ^ 64 ⌝ }
+pub extern "C" fn timing_library(pairs: &[u16]) -> u64
+    ensures { λ r. ⌜ r ≡ sum (now (pairs .entry)) % 2 ^ 64 ⌝ }
 {
     let mut sum: u64 = 0;
-    for i in 0..places.len() {
-        let place = places[i];
-        let register = first_in_mask((place / 256 % 256) as u8, (place % 256) as u8);
+    for i in 0..pairs.len() {
+        let pair = pairs[i];
+        let register = first_in_mask((pair / 256 % 256) as u8, (pair % 256) as u8);
         sum = std::num::wrapping_add_u64(sum, register as u64);
     }
     sum

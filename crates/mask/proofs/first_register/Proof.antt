@@ -1,9 +1,10 @@
--- The lowest bit of the entry at the position, of the mask, or neither: the register that the rules' search gives.
+-- Each way out is a case of the search by bits, and the tests on the way are its hypotheses: a register ahead, one behind, none;
+-- 7 in the mask, or any other position that no register has.
 -- Assumes nothing.
 use mathlib.Core.Path.{_∙_}
 use mathlib.Core.Logic.{⊎-elim}
 use borrow.Author.Needs.{needs}
-use Rattle.mask.proofs.Ahead.{found-ahead, found-behind, found-nowhere, found-seventh, found-beyond}
+use Rattle.mask.proofs.Ahead.{found-ahead, found-behind, found-nowhere, found-at-7, found-beyond}
 use Rattle.mask.proofs.first_register.Statement.{statement}
 use Rattle.mask.proofs.first_register.Tie as tie
 
@@ -35,7 +36,7 @@ returns-3 c =
     (c .if3 .left)
 
 returns-4 : tie.Need-returns-4
-returns-4 c = found-seventh _ _ (search needs) (c .if5 .taken) (c .before .if4 .taken)
+returns-4 c = found-at-7 _ _ (search needs) (c .if5 .taken) (c .before .if4 .taken)
 
 lowest-requires-3 : tie.Need-lowest-requires-3
 lowest-requires-3 c κs = search needs

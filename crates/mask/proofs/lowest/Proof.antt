@@ -1,4 +1,4 @@
--- No more than eight zeros stand below the lowest bit that is set.
+-- A byte has at most eight trailing zeros, and eight fits a byte.
 -- Assumes nothing.
 use native.Mathlib.Omega.{arith}
 use lib.Count.{trailing-le}

@@ -1,4 +1,4 @@
--- The invariant: the sum so far and the sum of the places left make the whole. The measure is the number of places left.
+-- The invariant: the sum so far and the sum of the pairs left make the whole. The measure is the number of pairs left.
 -- Assumes nothing.
 use Prim.Native.Nat.{_-_}
 use borrow.Author.Needs.{needs}
@@ -7,19 +7,19 @@ use Rattle.timing.proofs.timing_loop.Statement.{statement}
 use Rattle.timing.proofs.timing_loop.Tie as tie
 
 abbrev Inv-loop : tie.InvT-loop
-Inv-loop places sum₀ i₀ i-end sum i = Going places i-end sum i
+Inv-loop pairs sum₀ i₀ i-end sum i = Going pairs i-end sum i
 
 abbrev μ-loop : tie.MeasureT-loop
-μ-loop places sum₀ i₀ i-end sum i = i-end - i
+μ-loop pairs sum₀ i₀ i-end sum i = i-end - i
 
 loop-holds : tie.Need-loop-holds Inv-loop μ-loop
 loop-holds c = going-start _
 
-mul-place : tie.Need-mul-place Inv-loop μ-loop
-mul-place c = search needs
+mul-pair : tie.Need-mul-pair Inv-loop μ-loop
+mul-pair c = search needs
 
-shared-slice-read-place : tie.Need-shared-slice-read-place Inv-loop μ-loop
-shared-slice-read-place c = search needs
+shared-slice-read-pair : tie.Need-shared-slice-read-pair Inv-loop μ-loop
+shared-slice-read-pair c = search needs
 
 cast-first-by-loop : tie.Need-cast-first-by-loop Inv-loop μ-loop
 cast-first-by-loop c = search needs
@@ -56,8 +56,8 @@ timing-loop-spec =
     Inv-loop
     μ-loop
     loop-holds
-    mul-place
-    shared-slice-read-place
+    mul-pair
+    shared-slice-read-pair
     cast-first-by-loop
     cast-first-by-loop-2
     first-by-loop-requires
