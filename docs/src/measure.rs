@@ -574,7 +574,7 @@ fn transferring(b_timing: &[u8], wr4: u8) -> model::Device {
 fn send(device: &mut model::Device, bytes: &[u8]) {
     for &byte in bytes {
         let (number, _) = model::write(device, PORT, byte);
-        assert_eq!(number, 0, "the bus is free until the last byte");
+        assert_eq!(number, 0, "each byte is sent while the bus is free");
     }
 }
 
@@ -586,8 +586,8 @@ fn waiting() -> model::Device {
     device
 }
 
-/// The same with the status alone in the mask: after each read the search for the
-/// next register goes all the way round.
+/// The same with the status alone in the mask: in every read but the first the
+/// search goes all the way round.
 fn status_alone() -> model::Device {
     let mut device = waiting();
     send(&mut device, &[0xBB, 0x01]);

@@ -91,6 +91,7 @@ fn first(pair: u16) -> Option<u16> {
 
 const MILLION: usize = 1_000_000;
 const SHUFFLES: usize = 256;
+/// Of a pair in a list of nothing else.
 const COPIES: usize = 1_000;
 
 /// Lists that are gone over one after the other, each so many times in a row,
@@ -99,26 +100,22 @@ struct Order {
     what: &'static str,
     lists: Vec<Vec<u16>>,
     in_a_row: usize,
+    /// Counted once where it comes several times in a row.
     lists_in_all: usize,
 }
 
 fn orders() -> [Order; 3] {
-    let repeated = |pair| vec![pair; COPIES];
-    let order = |what, lists: Vec<Vec<u16>>, in_a_row, lists_in_all| Order {
-        what,
-        lists,
-        in_a_row,
-        lists_in_all,
-    };
+    let repeated: Vec<_> = pairs().into_iter().map(|pair| vec![pair; COPIES]).collect();
+    let each_once = repeated.len();
     [
-        order("in turn", vec![pairs()], 1, MILLION),
-        order(
-            "repeated",
-            pairs().into_iter().map(repeated).collect(),
-            MILLION / COPIES,
-            pairs().len(),
-        ),
-        order("shuffled", shuffled(), 1, MILLION),
+        Order { what: "in turn", lists: vec![pairs()], in_a_row: 1, lists_in_all: MILLION },
+        Order {
+            what: "repeated",
+            lists: repeated,
+            in_a_row: MILLION / COPIES,
+            lists_in_all: each_once,
+        },
+        Order { what: "shuffled", lists: shuffled(), in_a_row: 1, lists_in_all: MILLION },
     ]
 }
 

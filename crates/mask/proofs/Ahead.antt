@@ -1,6 +1,6 @@
 -- A table's rule is a test of each entry, computed. With such a table the search by bits is the rules' search: at the seven
--- positions that a register has by a test of every mask and position, computed; at any other because the rules' search goes on at
--- register 0 with six places left, by a test of every mask.
+-- positions that a register has by a test of every mask and position, computed; at 7, with bit 7 in the mask, because it ends
+-- there; at any other because it goes on at register 0 with six places left, by a test of every mask.
 -- Assumes nothing.
 use Prim.Native.Nat.{ℕ, _*_, _/_, _%_, _^_, _<_, _≤_}
 use native.Mathlib.Omega.{arith}

@@ -24,8 +24,8 @@ fn lowest(bits: u8) -> u8
     u8::trailing_zeros(bits) as u8
 }
 
-// The first register in the mask at or after the position, going round. With none in it: the position, or 6 from a position
-// that no register has.
+// The first register in the mask at or after the position, going round; position 7 counts as one where the mask has bit 7. With
+// none in the mask: the position, or 6 from a position that no register has.
 pub fn first_register(mask: u8, position: u8) -> u8
     ensures { λ r. ⌜ r ≡ chosen mask position ⌝ }
 {
@@ -40,8 +40,8 @@ pub fn first_register(mask: u8, position: u8) -> u8
         }
         return position;
     }
-    // No register has such a position. 7 is in a mask with bit 7. Else the search goes on at register 0 and ends at 6, whether
-    // or not the mask has it.
+    // No register has such a position. Where it is not in the mask, the search goes on at register 0 and ends at 6, whether or
+    // not the mask has that one.
     if position == 7 {
         if 127 < mask {
             return 7;
