@@ -1,8 +1,8 @@
 //! A program: times the search for the next register of the read mask, the
 //! library's own against a loop over seven places.
 //!
-//! `crates/timing` has the loop, and a function over lists for each of the two;
-//! both searches have one promise and are built alike.
+//! `crates/timing` has the loop, and one function over lists for both; the two
+//! searches have one promise and are built alike.
 //!
 //! Built by `rustc --edition 2021 -O -L native=target/staticlib seek.rs`,
 //! from this folder or with its path; `seek --help` says how it is run.
@@ -22,8 +22,8 @@ usage: seek [--rounds N]      times both, in N rounds, an even number (4)
        seek --check           compares their answers, and times nothing
 Times the search for the next register of the read mask: the library's own
 against a loop over seven places. Both are proved to give the same, and built
-alike: each within a function that searches at every pair of a list, a pair being
-a mask and a position. Each of the 128 masks and 7 positions is searched a million
+alike: one function searches with either at every pair of a list, a pair being a
+mask and a position. Each of the 128 masks and 7 positions is searched a million
 times, in three orders:
 
   in turn    all of them, one after the other, again and again
@@ -44,24 +44,23 @@ mask from the position on, going round.
 Exit status: 0 done; 1 a requirement is not met; 2 bad arguments.
 ";
 
-// The only unsafe code here: the calls into the library. A list is lent as
-// where it lies and how long it is.
+// The only unsafe code here: the call into the library. A list is lent as where
+// it lies and how long it is.
 #[allow(unsafe_code)]
 mod linked {
     mod timing {
         #[link(name = "timing", kind = "static")]
         extern "C" {
-            pub fn timing_loop(pairs: *const u16, length: usize) -> u64;
-            pub fn timing_library(pairs: *const u16, length: usize) -> u64;
+            pub fn timing_sum(pairs: *const u16, length: usize, looping: bool) -> u64;
         }
     }
 
     pub fn by_loop(pairs: &[u16]) -> u64 {
-        unsafe { timing::timing_loop(pairs.as_ptr(), pairs.len()) }
+        unsafe { timing::timing_sum(pairs.as_ptr(), pairs.len(), true) }
     }
 
     pub fn by_library(pairs: &[u16]) -> u64 {
-        unsafe { timing::timing_library(pairs.as_ptr(), pairs.len()) }
+        unsafe { timing::timing_sum(pairs.as_ptr(), pairs.len(), false) }
     }
 }
 

@@ -1,5 +1,5 @@
 // For the timing: the search for the next register in the mask by a loop, beside the library's own. Both have one promise, and
-// both go over lists alike.
+// one function goes over lists with either.
 ghost use mathlib.Core.Path.{_≡_};
 ghost use Prim.Native.Nat.{_%_, _^_};
 ghost use Rattle.rules.specs.Bytes.{bit};
@@ -45,30 +45,26 @@ fn first_by_loop(mask: u8, position: u8) -> u8
     }
 }
 
-// Searches by the loop at every pair of a list, a mask in the high byte and a position in the low one. The registers found are
-// summed, modulo 2 to the power of 64.
-#[no_mangle]
-pub extern "C" fn timing_loop(pairs: &[u16]) -> u64
-    ensures { λ r. ⌜ r ≡ sum (now (pairs .entry)) % 2 ^ 64 ⌝ }
+// The same by the loop or by the library.
+fn first_by(looping: bool, mask: u8, position: u8) -> u8
+    ensures { λ r. ⌜ r ≡ chosen mask position ⌝ }
 {
-    let mut sum: u64 = 0;
-    for i in 0..pairs.len() {
-        let pair = pairs[i];
-        let register = first_by_loop((pair / 256 % 256) as u8, (pair % 256) as u8);
-        sum = std::num::wrapping_add_u64(sum, register as u64);
+    if looping {
+        return first_by_loop(mask, position);
     }
-    sum
+    first_in_mask(mask, position)
 }
 
-// The same searches by the library.
+// Searches at every pair of a list, a mask in the high byte and a position in the low one. The registers found are summed,
+// modulo 2 to the power of 64.
 #[no_mangle]
-pub extern "C" fn timing_library(pairs: &[u16]) -> u64
+pub extern "C" fn timing_sum(pairs: &[u16], looping: bool) -> u64
     ensures { λ r. ⌜ r ≡ sum (now (pairs .entry)) % 2 ^ 64 ⌝ }
 {
     let mut sum: u64 = 0;
     for i in 0..pairs.len() {
         let pair = pairs[i];
-        let register = first_in_mask((pair / 256 % 256) as u8, (pair % 256) as u8);
+        let register = first_by(looping, (pair / 256 % 256) as u8, (pair % 256) as u8);
         sum = std::num::wrapping_add_u64(sum, register as u64);
     }
     sum

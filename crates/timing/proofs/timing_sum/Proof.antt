@@ -3,14 +3,14 @@
 use Prim.Native.Nat.{_-_}
 use borrow.Author.Needs.{needs}
 use Rattle.timing.proofs.Sums.{Going, going-start, going-more, going-end}
-use Rattle.timing.proofs.timing_loop.Statement.{statement}
-use Rattle.timing.proofs.timing_loop.Tie as tie
+use Rattle.timing.proofs.timing_sum.Statement.{statement}
+use Rattle.timing.proofs.timing_sum.Tie as tie
 
 abbrev Inv-loop : tie.InvT-loop
-Inv-loop pairs sum₀ i₀ i-end sum i = Going pairs i-end sum i
+Inv-loop pairs looping sum₀ i₀ i-end sum i = Going pairs i-end sum i
 
 abbrev μ-loop : tie.MeasureT-loop
-μ-loop pairs sum₀ i₀ i-end sum i = i-end - i
+μ-loop pairs looping sum₀ i₀ i-end sum i = i-end - i
 
 loop-holds : tie.Need-loop-holds Inv-loop μ-loop
 loop-holds c = going-start _
@@ -21,14 +21,14 @@ mul-pair c = search needs
 shared-slice-read-pair : tie.Need-shared-slice-read-pair Inv-loop μ-loop
 shared-slice-read-pair c = search needs
 
-cast-first-by-loop : tie.Need-cast-first-by-loop Inv-loop μ-loop
-cast-first-by-loop c = search needs
+cast-first-by : tie.Need-cast-first-by Inv-loop μ-loop
+cast-first-by c = search needs
 
-cast-first-by-loop-2 : tie.Need-cast-first-by-loop-2 Inv-loop μ-loop
-cast-first-by-loop-2 c = search needs
+cast-first-by-2 : tie.Need-cast-first-by-2 Inv-loop μ-loop
+cast-first-by-2 c = search needs
 
-first-by-loop-requires : tie.Need-first-by-loop-requires Inv-loop μ-loop
-first-by-loop-requires c κs = search needs
+first-by-requires : tie.Need-first-by-requires Inv-loop μ-loop
+first-by-requires c κs = search needs
 
 cast-wrapping-add-u64 : tie.Need-cast-wrapping-add-u64 Inv-loop μ-loop
 cast-wrapping-add-u64 c = search needs
@@ -44,13 +44,13 @@ loop-less c = search needs
 
 loop-again : tie.Need-loop-again Inv-loop μ-loop
 loop-again c = rw (c .wrapping-add-u64 .ensures)
-    (going-more _ _ _ _ _ (c .before .before .before .before .loop .inv) (c .before .before .before .loop-test .taken) (c .before .first-by-loop .ensures))
+    (going-more _ _ _ _ _ (c .before .before .before .before .loop .inv) (c .before .before .before .loop-test .taken) (c .before .first-by .ensures))
 
 returns : tie.Need-returns Inv-loop μ-loop
 returns c = going-end _ _ _ _ (c .before .loop .inv) (c .loop-test .left)
 
-pub timing-loop-spec : {M : Type 1} → statement M
-timing-loop-spec =
+pub timing-sum-spec : {M : Type 1} → statement M
+timing-sum-spec =
     tie.close
     (tie.spec
     Inv-loop
@@ -58,9 +58,9 @@ timing-loop-spec =
     loop-holds
     mul-pair
     shared-slice-read-pair
-    cast-first-by-loop
-    cast-first-by-loop-2
-    first-by-loop-requires
+    cast-first-by
+    cast-first-by-2
+    first-by-requires
     cast-wrapping-add-u64
     wrapping-add-u64-requires
     add-i
