@@ -92,7 +92,7 @@ pub record Step {M : Type 0} (asked : ℕ) (s : System M) (a : Answer M) (given 
   pub sum : total (a .system .clocks) ≡ total (s .clocks) + pick (eqb (a .answered .number) 0) asked 0
 
 -- an entry that asks for no clock, or is refused, adds none
-no-clocks : (t : Bool) (n : ℕ) → n ≡ n + pick t 0 0
+pub no-clocks : (t : Bool) (n : ℕ) → n ≡ n + pick t 0 0
 no-clocks t n = sym (ap (λ (k : ℕ). n + k) (pick-both (λ (k : ℕ). k ≡ 0) t 0 0 refl refl) ∙ add-zero n)
 
 refused-clocks : (k asked n : ℕ) → (k ≡ 0 → ⊥) → n ≡ n + pick (eqb k 0) asked 0

@@ -127,13 +127,13 @@ slot-pending : (n m : ℕ) (c : Core) → slotClock m (withPending n c) ≡ cloc
 slot-pending n m c =
     slot-clock-aside n (c .control .speed) m c
     ∙ ap (λ (v : ℕ). clock (slotClock m c .kind) (slotClock m c .moves) (slotClock m c .zeroed) (withPending n (atSpeed v (slotClock m c .next))))
-    (sym (slot-timed (λ a b speed pending. speed ≡ c .control .speed) (λ s. Unit {0}) tt m c refl tt .0))
+    (sym (slot-timed (λ a b control pending. control .speed ≡ c .control .speed) (λ s. Unit {0}) tt m c refl tt .0))
 
 pub slot-speed : (code m : ℕ) (c : Core) → slotClock m (atSpeed code c) ≡ clock (slotClock m c .kind) (slotClock m c .moves) (slotClock m c .zeroed) (atSpeed code (slotClock m c .next))
 slot-speed code m c =
     slot-clock-aside (c .pending) code m c
     ∙ ap (λ (v : ℕ). clock (slotClock m c .kind) (slotClock m c .moves) (slotClock m c .zeroed) (withPending v (atSpeed code (slotClock m c .next))))
-    (sym (slot-timed (λ a b speed pending. pending ≡ c .pending) (λ s. Unit {0}) tt m c refl tt .0))
+    (sym (slot-timed (λ a b control pending. pending ≡ c .pending) (λ s. Unit {0}) tt m c refl tt .0))
 
 module _ (n : ℕ) where
   -- ---- a clock of the core

@@ -1,5 +1,5 @@
--- What a write, a read and a clock leave alone: the speed, a clock the ports' cycles and the pending parameters too, and what
--- they make of the slot.
+-- What a write, a read and a clock leave alone: the speed, a clock all of the control, the ports' cycles and the pending
+-- parameters, and what they make of the slot.
 -- Assumes nothing.
 use Prim.Native.Nat.{ℕ, _+_}
 use mathlib.Core.Path.{_≡_}
@@ -8,6 +8,7 @@ use Rattle.rules.specs.Commands.{enable, readingCommand, command}
 use Rattle.rules.specs.Registers.{wr3, register, parameter, carriedOut, written, carriedOutAs, effectOver, inMode}
 use Rattle.rules.specs.Readback.{Byte, readByte}
 use Rattle.rules.specs.Clock.{Clock, Ending, withElapsed, movesAt, movedAt, slotEnd, clockEnd, slotClock, begun, clockOf}
+use Rattle.rules.specs.declared.Control.{Control}
 use Rattle.rules.specs.declared.Slot.{Slot}
 use Rattle.rules.specs.declared.Core.{Core}
 use Rattle.rules.proofs.Choice.{pick-both, below, _⨾_, table}
@@ -52,12 +53,12 @@ module _ (speed : ℕ) (Q : Slot → Type 0) (rest : Q noSlot) where
   unfolding effectOver
   written-framed port byte c f = carried-framed (inMode port c) f byte
 
--- ---- a clock leaves both cycles, the speed and the pending parameters, and the figures of the slot that runs or begins, unless
+-- ---- a clock leaves both cycles, the control and the pending parameters, and the figures of the slot that runs or begins, unless
 -- it is the last
 
-module _ (P : ℕ → ℕ → ℕ → ℕ → Type 0) (Q : Slot → Type 0) (rest : Q noSlot) where
+module _ (P : ℕ → ℕ → Control → ℕ → Type 0) (Q : Slot → Type 0) (rest : Q noSlot) where
   abbrev Left : Core → Type 0
-  Left c = P (c .a .cycle) (c .b .cycle) (c .control .speed) (c .pending)
+  Left c = P (c .a .cycle) (c .b .cycle) (c .control) (c .pending)
 
   -- of these P holds, and of the slot Q
   abbrev Timed : Core → Type 0

@@ -35,4 +35,5 @@ pub mod Recheck
 pub mod Slowing
 pub mod Unslowed
 pub mod Numbered
+pub mod Floored
 pub mod Warned

@@ -52,7 +52,7 @@ unfolding readReplyOver
 read-speed c k port = unless-core (SpeedOf c) _ _ _ _ c k (λ e. read-framed _ Any tt c (refl, tt) .0) refl
 
 clock-speed : (c : Core) → clockOf c .next .control .speed ≡ c .control .speed
-clock-speed c = clock-timed (λ a b speed pending. speed ≡ c .control .speed) Any tt c (refl, tt) tt .0
+clock-speed c = clock-timed (λ a b control pending. control .speed ≡ c .control .speed) Any tt c (refl, tt) tt .0
 
 grant-speed : {M : Type 0} (σ : Store M) (s : System M) (n : ℕ) → grant σ s n .system .world .core .control .speed ≡ s .world .core .control .speed
 unfolding grantOver

@@ -54,7 +54,7 @@ module _ {M C : Type 0} (σ : Store M) (ω : Outside M C) where
 
   -- ---- the history
 
-  history-behind : (xs ys : List (Entry σ C)) (p : Past M) → history σ ω (xs ++ ys) p .past ≡ history σ ω ys (history σ ω xs p .past) .past
+  pub history-behind : (xs ys : List (Entry σ C)) (p : Past M) → history σ ω (xs ++ ys) p .past ≡ history σ ω ys (history σ ω xs p .past) .past
   unfolding historyBy
   history-behind [] ys p = refl
   history-behind (x ∷ xs) ys p = history-behind xs ys (noteEntry σ ω x p .past)

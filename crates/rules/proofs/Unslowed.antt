@@ -25,6 +25,7 @@ use Rattle.rules.specs.History.{Past, EntryNoted, withCore, writePassed,
 use Rattle.rules.specs.At28.{slotLengthAt28, newSlotAt28, slotOfAt28, clockAt28, validLengthAt28, runningSlotAt28, validSlotAt28, validCoreAt28, at28}
 use Rattle.rules.specs.Unslowed.{allowedAt28, Unslowed, isSpeedCall, others, NoSpeedCall, OnlyThree, SameButSpeed, FullSpeedStands}
 use Rattle.rules.specs.Opened.{opened}
+use Rattle.rules.specs.declared.Control.{Control}
 use Rattle.rules.specs.declared.Slot.{Slot}
 use Rattle.rules.specs.declared.Clocks.{Clocks}
 use Rattle.rules.specs.declared.Core.{Core}
@@ -119,11 +120,11 @@ core-alike c f =
 -- ---- the clock
 
 -- cycles of at most 4, and code 3
-abbrev Cycles : ℕ → ℕ → ℕ → ℕ → Type 0
-Cycles a b speed pending = (a ≤ 4) × (b ≤ 4) × (speed ≡ 3)
+abbrev Cycles : ℕ → ℕ → Control → ℕ → Type 0
+Cycles a b control pending = (a ≤ 4) × (b ≤ 4) × (control .speed ≡ 3)
 
 abbrev Timed3 : Core → Type 0
-Timed3 c = Cycles (c .a .cycle) (c .b .cycle) (c .control .speed) (c .pending)
+Timed3 c = Cycles (c .a .cycle) (c .b .cycle) (c .control) (c .pending)
 
 bus-alike : (c : Core) → c .control .speed ≡ 3 → newSlot c .bus ≡ c .a .cycle + c .b .cycle
 bus-alike c e = ap (λ (n : ℕ). busTimeOf n (c .a .cycle) (c .b .cycle)) e ∙ bus-full (c .a .cycle) (c .b .cycle)

@@ -38,6 +38,8 @@ pub mod Numbered
 pub mod Slowing
 pub mod At28
 pub mod Unslowed
+pub mod Floor
+pub mod Floored
 pub mod Unwarned
 pub mod Warned
 pub mod Opened

@@ -9,6 +9,7 @@ use Rattle.rules.specs.Selection.{selects}
 use Rattle.rules.specs.Pending.{next, ask, asked, usedUp, pendingAfterAs, validPending}
 use Rattle.rules.specs.Warnings.{warningAs}
 use Rattle.rules.specs.Validity.{validPort, validReadback, restingSlot, prescaledLength, validLength, runningSlot, validSlot, validProgress, validCoreIf, validIf}
+use Rattle.rules.specs.Floor.{shared, allShared, floorOf, cpuFloor}
 use Rattle.rules.specs.Commands.{enable, readingCommand, command}
 use Rattle.rules.specs.Registers.{wr3, register, parameter, carriedOutAs, effectOver}
 use Rattle.rules.specs.Readback.{statusByte, registerByte, after, seek, readByte}
@@ -30,9 +31,9 @@ unfoldable bytesOpened : Unit {0}
 unfolding selects next ask asked usedUp pendingAfterAs validPending warningAs enable readingCommand command wr3 register parameter carriedOutAs effectOver statusByte registerByte after seek readByte
 bytesOpened = tt
 
--- which devices are valid
+-- which devices are valid, and of how many clocks the processor has one
 unfoldable validOpened : Unit {0}
-unfolding validPort validReadback restingSlot prescaledLength validLength runningSlot validSlot validProgress validCoreIf validIf
+unfolding validPort validReadback restingSlot prescaledLength validLength runningSlot validSlot validProgress validCoreIf validIf shared allShared floorOf cpuFloor
 validOpened = tt
 
 -- clocks, and the buffers that they work on
