@@ -1,6 +1,7 @@
 // The device's calls for C and for Rust. Each hands what it is given to the function that it wraps, and answers the same.
 ghost use mathlib.Core.Path.{_≡_};
 ghost use Rattle.rules.specs.Validity.{valid, total};
+ghost use Rattle.rules.specs.Floor.{cpuFloor};
 ghost use Rattle.rules.specs.Buffers.{flat};
 ghost use Rattle.rules.specs.Calls.{writeReply, readReply, speedReply, grant};
 ghost use Rattle.zxndma.specs.Answers.{deviceAtPowerOn, writeAnswer, readAnswer, speedAnswer, systemOf, grantAnswer};
@@ -61,4 +62,12 @@ pub extern "C" fn zxndma_valid(device: Device) -> bool
     ensures { λ r. ⌜ r ≡ valid (device .core) (total (device .clocks)) ⌝ }
 {
     device.is_valid()
+}
+
+// A floor under the processor's time: among any so many clocks in a row one at least is the processor's; 0 claims nothing.
+#[no_mangle]
+pub extern "C" fn zxndma_cpu_floor(device: Device) -> u32
+    ensures { λ r. ⌜ r ≡ cpuFloor (device .core) (total (device .clocks)) ⌝ }
+{
+    device.cpu_floor()
 }

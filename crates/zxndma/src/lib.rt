@@ -3,6 +3,7 @@
 ghost use mathlib.Core.Path.{_≡_};
 ghost use Prim.Native.Nat.{_*_, _-_, _<_};
 ghost use Rattle.rules.specs.Validity.{total, valid};
+ghost use Rattle.rules.specs.Floor.{cpuFloor};
 ghost use Rattle.rules.specs.Buffers.{lengthRefusal, flat};
 ghost use Rattle.rules.specs.World.{clocked};
 ghost use Rattle.rules.specs.Refusals.{lentRefusal, grantRefusal};
@@ -104,6 +105,18 @@ impl Device {
         let core = self.core;
         let clocks = self.clocks;
         valid::is_valid(core, clocks)
+    }
+
+    // A floor under the processor's time: among any so many clocks in a row, from the next one on, one at least is the
+    // processor's, as long as no port access and no speed call is accepted. At most 65. 0, which claims nothing, if the device
+    // is not valid, or if the slot that runs or the one that the registers start, enabled or not, is continuous or no longer
+    // than its bus time.
+    pub fn cpu_floor(self) -> u32
+        ensures { λ r. ⌜ r ≡ cpuFloor (self .core) (total (self .clocks)) ⌝ }
+    {
+        let core = self.core;
+        let clocks = self.clocks;
+        floor::cpu_floor(core, clocks)
     }
 
     // A byte is written to the DMA's port: the port number's low byte is 6B (zxn mode) or 0B (Zilog mode). Refused with 1, 2

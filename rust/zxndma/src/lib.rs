@@ -282,6 +282,7 @@ library! { (_)
     ) -> GrantAnswer;
     fn zxndma_set_speed(device: Device, code: u8) -> SpeedAnswer;
     fn zxndma_valid(device: Device) -> bool;
+    fn zxndma_cpu_floor(device: Device) -> u32;
 }
 
 // What all the calls below rest on: the library's functions are proved to
@@ -333,5 +334,17 @@ impl Device {
     pub fn is_valid(self) -> bool {
         // SAFETY: as for a write; the answer's byte is 0 or 1.
         unsafe { zxndma_valid(self) }
+    }
+
+    /// A floor under the processor's time: among any so many clocks in a row,
+    /// from the next one on, at least one is the processor's, as long as no port
+    /// access and no speed call is accepted in between. How the clocks are cut
+    /// into grants does not matter, nor do refused calls and changes of memory. At
+    /// most 65. 0 is no claim: the device is not valid, or a slot that runs, or
+    /// the one that the registers start, enabled or not, is continuous or no
+    /// longer than its bus time.
+    pub fn cpu_floor(self) -> u32 {
+        // SAFETY: as for a write.
+        unsafe { zxndma_cpu_floor(self) }
     }
 }
