@@ -10,6 +10,8 @@ use Rattle.rules.specs.Parts.{withCycle, withCounter, withMask, withPosition, w
 use Rattle.rules.specs.declared.Core.{Core}
 use Rattle.rules.specs.Speed.{atSpeed}
 use Rattle.rules.specs.Slots.{slotLength}
+use Rattle.rules.specs.Floor.{cpuFloor}
+use Rattle.rules.specs.Floored.{inBurst}
 use Rattle.rules.specs.Bytes.{lowByte, highByte}
 use Rattle.examples.specs.Rows.{Action, Row, row, fill, latch, send, sendWarned, sendRefused, expect, expectRefused, speed, speedRefused, clocks, borrow, counts, memory, latches, pointers, counter, status, enabled, count, suppose, supposeCore, supposeCounts, clocksRefused, figure, changed, nextMove, start, failures}
 
@@ -47,6 +49,10 @@ endsWithTheSlot = clocks 21 ∷ enabled true ∷ status 0x3B ∷ clocks 1 ∷ en
 -- the speed code
 abbrev pub speedCode : Core → ℕ
 speedCode c = c .control .speed
+
+-- the floor under the processor's time is this one, of a device whose clock counts fit
+abbrev pub floor : ℕ → Action
+floor n = figure (λ c. cpuFloor c 0) n
 
 -- P1 at a speed: a byte in so many clocks, all of them on the bus
 abbrev pub slowed : String → ℕ → ℕ → Row
@@ -1375,6 +1381,204 @@ table =
     ∷ sendRefused 0x6B 0x03 3
     ∷ supposeCounts 18446744073709551615 1 0
     ∷ sendRefused 0x6B 0x03 1
+    ∷ [])
+    -- the floor of P4: among any five clocks one is the processor's; four clocks of a byte have none, and the block's end changes
+    -- nothing, as disabled the device leaves it all clocks
+    ∷ row "floor at 28 MHz"
+    (send 0x6B (program 0x1000 2 (0x22 ∷ 0x01 ∷ []) 0xCD 0x2000 0x82)
+    ∷ floor 5
+    ∷ clocks 4
+    ∷ counts 4 0 0
+    ∷ floor 5
+    ∷ clocks 1
+    ∷ counts 4 0 1
+    ∷ clocks 27
+    ∷ floor 5
+    ∷ clocks 4
+    ∷ counts 8 0 28
+    ∷ clocks 27
+    ∷ enabled true
+    ∷ clocks 2
+    ∷ enabled false
+    ∷ counts 8 0 57
+    ∷ floor 5
+    ∷ clocks 5
+    ∷ counts 8 0 62
+    ∷ figure (λ c. cpuFloor c 18446744073709551615) 5
+    ∷ figure (λ c. cpuFloor c 18446744073709551616) 0
+    ∷ [])
+    -- the largest: cycles of 4 + 4 at 3.5 MHz, prescaler 3; with prescaler 2 the slot is no longer than its bus time
+    ∷ row "floor at 3.5 MHz"
+    (speed 0
+    ∷ send 0x0B (0xC1 ∷ 0x50 ∷ 0x20 ∷ 0x03 ∷ 0x87 ∷ [])
+    ∷ floor 65
+    ∷ clocks 64
+    ∷ counts 64 0 0
+    ∷ clocks 1
+    ∷ counts 64 0 1
+    ∷ floor 65
+    ∷ send 0x0B (0x50 ∷ 0x20 ∷ 0x02 ∷ [])
+    ∷ floor 0
+    ∷ clocks 31
+    ∷ enabled false
+    ∷ send 0x0B (0xCF ∷ 0xA2 ∷ 0x87 ∷ [])
+    ∷ floor 0
+    ∷ clocks 192
+    ∷ counts 256 0 32
+    ∷ [])
+    -- disabled, the device is asked for the slot that its registers would start: not one that is continuous, nor one without a
+    -- prescaler; the speed counts
+    ∷ row "floor of a disabled device"
+    (floor 0
+    ∷ send 0x6B (0x50 ∷ 0x20 ∷ 0x01 ∷ [])
+    ∷ floor 0
+    ∷ send 0x6B (0xC1 ∷ [])
+    ∷ floor 9
+    ∷ clocks 100
+    ∷ counts 0 0 100
+    ∷ floor 9
+    ∷ speed 2
+    ∷ floor 17
+    ∷ speed 1
+    ∷ floor 0
+    ∷ send 0x6B (0x50 ∷ 0x20 ∷ 0xFF ∷ [])
+    ∷ floor 33
+    ∷ speed 0
+    ∷ floor 65
+    ∷ send 0x6B (0x50 ∷ 0x20 ∷ 0x00 ∷ [])
+    ∷ floor 0
+    ∷ enabled false
+    ∷ supposeCore (λ c. inBurst 3 2 1 1)
+    ∷ floor 5
+    ∷ supposeCore (withPending 0x11)
+    ∷ floor 0
+    ∷ [])
+    -- blocks of one byte that restart: each is a slot like any other
+    ∷ row "floor across restarts"
+    (send 0x6B (program 0x1000 1 (0x22 ∷ 0x01 ∷ []) 0xCD 0x2000 0xA2)
+    ∷ floor 5
+    ∷ clocks 31
+    ∷ counts 4 0 27
+    ∷ clocks 1
+    ∷ enabled true
+    ∷ counter 0
+    ∷ floor 5
+    ∷ clocks 4
+    ∷ counts 8 0 28
+    ∷ clocks 1
+    ∷ counts 8 0 29
+    ∷ clocks 31
+    ∷ floor 5
+    ∷ counts 12 0 56
+    ∷ clocks 1
+    ∷ counts 12 0 57
+    ∷ [])
+    -- the speed raised in a slot: its own bus time still counts, and once it is over the registers' alone
+    ∷ row "floor, speed raised in a slot"
+    (speed 0
+    ∷ send 0x6B (program 0x1000 2 (0x22 ∷ 0x02 ∷ []) 0xCD 0x2000 0x82)
+    ∷ floor 33
+    ∷ clocks 1
+    ∷ speed 3
+    ∷ floor 33
+    ∷ clocks 31
+    ∷ counts 32 0 0
+    ∷ clocks 1
+    ∷ counts 32 0 1
+    ∷ floor 33
+    ∷ clocks 31
+    ∷ floor 5
+    ∷ clocks 4
+    ∷ counts 36 0 32
+    ∷ clocks 1
+    ∷ counts 36 0 33
+    ∷ [])
+    -- raised in a slot that has no wait: as long as it runs there is no floor, and its clocks and the next slot's have none of the
+    -- processor
+    ∷ row "floor, speed raised in a slot without a wait"
+    (speed 0
+    ∷ send 0x6B (program 0x1000 2 (0x22 ∷ 0x01 ∷ []) 0xCD 0x2000 0x82)
+    ∷ floor 0
+    ∷ clocks 1
+    ∷ speed 3
+    ∷ floor 0
+    ∷ clocks 30
+    ∷ floor 0
+    ∷ clocks 1
+    ∷ floor 5
+    ∷ clocks 4
+    ∷ counts 36 0 0
+    ∷ clocks 1
+    ∷ counts 36 0 1
+    ∷ [])
+    -- the speed lowered in a slot: the slots to come count, and with a prescaler too small for them there is no floor
+    ∷ row "floor, speed lowered in a slot"
+    (send 0x6B (program 0x1000 4 (0x22 ∷ 0x02 ∷ []) 0xCD 0x2000 0x82)
+    ∷ floor 5
+    ∷ clocks 10
+    ∷ speed 0
+    ∷ floor 33
+    ∷ clocks 54
+    ∷ counts 4 0 60
+    ∷ floor 33
+    ∷ clocks 32
+    ∷ counts 36 0 60
+    ∷ clocks 1
+    ∷ counts 36 0 61
+    ∷ send 0x6B (0x50 ∷ 0x22 ∷ 0x01 ∷ [])
+    ∷ floor 0
+    ∷ clocks 31
+    ∷ counts 36 0 92
+    ∷ clocks 64
+    ∷ counts 100 0 92
+    ∷ [])
+    -- a prescaler set in a wait counts for the slots to come, the wait being burst and long as it is
+    ∷ row "floor, prescaler in a wait"
+    (send 0x6B (program 0x1000 40 (0x22 ∷ 0x01 ∷ []) 0xCD 0x2000 0x82)
+    ∷ clocks 10
+    ∷ floor 5
+    ∷ send 0x6B (0x50 ∷ 0x22 ∷ 0x00 ∷ [])
+    ∷ floor 0
+    ∷ clocks 21
+    ∷ send 0x6B (0x50 ∷ 0x22 ∷ 0xFF ∷ [])
+    ∷ floor 5
+    ∷ send 0x6B (0x50 ∷ 0x22 ∷ 0x00 ∷ [])
+    ∷ floor 0
+    ∷ clocks 1
+    ∷ counts 4 0 28
+    ∷ clocks 66
+    ∷ counts 70 0 28
+    ∷ [])
+    -- continuous chosen in a wait: the wait is burst, and the slots to come are not
+    ∷ row "floor, mode in a wait"
+    (send 0x6B (program 0x1000 3 (0x22 ∷ 0x01 ∷ []) 0xCD 0x2000 0x82)
+    ∷ clocks 10
+    ∷ floor 5
+    ∷ send 0x6B (0xA1 ∷ [])
+    ∷ floor 0
+    ∷ clocks 22
+    ∷ counts 4 0 28
+    ∷ floor 0
+    ∷ clocks 64
+    ∷ counts 12 56 28
+    ∷ [])
+    -- a slot that runs and has not the registers' figures, as a host may put it: continuous, no longer than its bus time, and with
+    -- the largest one
+    ∷ row "floor, a slot of its own"
+    (send 0x6B (program 0x1000 3 (0x22 ∷ 0x01 ∷ []) 0xCD 0x2000 0x82)
+    ∷ floor 5
+    ∷ supposeCore (inSlot 1 4 32 false)
+    ∷ floor 0
+    ∷ supposeCore (inSlot 1 4 4 true)
+    ∷ floor 0
+    ∷ supposeCore (inSlot 1 64 96 true)
+    ∷ floor 65
+    ∷ clocks 63
+    ∷ counts 63 0 0
+    ∷ clocks 1
+    ∷ counts 63 0 1
+    ∷ supposeCore (inSlot 1 65 96 true)
+    ∷ floor 0
     ∷ [])
     ∷ []
 
