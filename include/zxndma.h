@@ -184,10 +184,11 @@ zxndma_speed_answer zxndma_set_speed(zxndma_device device, uint8_t code);
 /* The device is valid: no call refuses it with 1. */
 bool zxndma_valid(zxndma_device device);
 
-/* A floor under the processor's time: among any so many clocks in a row, from the next one on, at least one is the
- * processor's, as long as no port access and no speed call is accepted in between. How the clocks are cut into grants does
- * not matter, nor do refused calls and changes of memory. At most 65. 0 is no claim: the device is not valid, or a slot that
- * runs, or the one that the registers start, enabled or not, is continuous or no longer than its bus time. */
+/* A floor under the processor's time: among any so many clocks in a row, the next one or a later one being the first, at
+ * least one is the processor's, as long as up to the last of them no port access and no speed call is accepted and the host
+ * does not change the device itself. How the clocks are cut into grants does not matter, nor do refused calls and changes of
+ * memory. At most 65. 0 is no claim: the device is not valid, or the slot that runs, or the one that the registers start,
+ * enabled or not, is continuous or no longer than its bus time. */
 uint32_t zxndma_cpu_floor(zxndma_device device);
 
 /* ---- The layout that the library was built with ---- */

@@ -15,8 +15,8 @@ use Rattle.rules.specs.Choice.{pick, every, any}
 use Rattle.rules.specs.Validity.{valid, total}
 use Rattle.rules.specs.World.{System, Move}
 use Rattle.rules.proofs.Choice.{clash, either, pick-true, pick-false, all-true, every-stop, every-stop-later, every-at}
-use Rattle.examples.specs.Rows.{Action, fill, latch, send, sendAnswered, expect, expectRefused, speed, speedRefused, clocks, borrow, counts, memory, latches, pointers, counter, status, enabled, count, suppose, supposeCore, supposeCounts, clocksRefused, figure, changed, nextMove, Row, Seen, seen, same, sendOne, expectOne, inTurn, movesSo, perform, played, Failure, rowFailures, start, failures}
-use Rattle.examples.specs.Bites.{Other, OneOther, here, later, sendAccepted, sendUnwarned, sendNumber, sendWarning, speedAccepted, clocksAccepted, expectByte, expectRefusedNumber, speedRefusedNumber, borrowNumber, countsBus, countsHeld, countsCpu, memoryByte, latchesByte, pointersA, pointersB, counterHolds, statusByte, enabledOr, countIs, clocksRefusedNumber, figureIs, changedValid, moveFrom, moveFromIo, moveTo, moveToIo, moveByte, Bites, SendsSingly, TableBites, anyOf, expects, someExpects, allExpect, EveryRowExpects, ExpectsChangeable}
+use Rattle.examples.specs.Rows.{Action, fill, latch, send, sendAnswered, expect, expectRefused, speed, speedRefused, clocks, borrow, counts, memory, latches, pointers, counter, status, enabled, count, suppose, supposeCore, supposeCounts, clocksRefused, floor, figure, changed, nextMove, Row, Seen, seen, same, sendOne, expectOne, inTurn, movesSo, perform, played, Failure, rowFailures, start, failures}
+use Rattle.examples.specs.Bites.{Other, OneOther, here, later, sendAccepted, sendUnwarned, sendNumber, sendWarning, speedAccepted, clocksAccepted, expectByte, expectRefusedNumber, speedRefusedNumber, borrowNumber, countsBus, countsHeld, countsCpu, memoryByte, latchesByte, pointersA, pointersB, counterHolds, statusByte, enabledOr, countIs, clocksRefusedNumber, floorIs, figureIs, changedValid, moveFrom, moveFromIo, moveTo, moveToIo, moveByte, Bites, SendsSingly, TableBites, anyOf, expects, someExpects, allExpect, EveryRowExpects, ExpectsChangeable}
 
 -- ---- one value
 
@@ -133,6 +133,7 @@ bites _ _ s (statusByte n x o) h = other-number _ n x o h
 bites _ _ s (enabledOr t u o) h = other-flag (s .world .core .enabled) t u o h
 bites _ _ s (countIs n x o) h = other-number _ n x o h
 bites _ _ s (clocksRefusedNumber z n m o) h = second-of n m _ _ _ o h
+bites _ _ s (floorIs n x o) h = other-number _ n x o h
 bites _ _ s (figureIs f n x o) h = other-number _ n x o h
 bites _ _ s (changedValid f t u o) h = other-flag (valid (f (s .world .core)) (total (s .clocks))) t u o h
 bites _ _ s (moveFrom f i t j b x o) h = move-from f i t j b x _ o h
@@ -219,6 +220,7 @@ expects-changeable (suppose n) h = clash h
 expects-changeable (supposeCore f) h = clash h
 expects-changeable (supposeCounts b k c) h = clash h
 expects-changeable (clocksRefused z n) h = record { other = _; isOther = clocksRefusedNumber z n _ (more n) }
+expects-changeable (floor n) h = record { other = _; isOther = floorIs n _ (more n) }
 expects-changeable (figure f n) h = record { other = _; isOther = figureIs f n _ (more n) }
 expects-changeable (changed f t) h = record { other = _; isOther = changedValid f t _ (flipped t) }
 expects-changeable (nextMove f i t j b) h = record { other = _; isOther = moveFrom f i t j b _ (more f) }

@@ -8,7 +8,7 @@ use mathlib.Core.List.{List, [], _∷_, _++_}
 use Rattle.rules.specs.Choice.{every, any}
 use Rattle.rules.specs.World.{System}
 use Rattle.rules.specs.declared.Core.{Core}
-use Rattle.examples.specs.Rows.{Action, fill, latch, send, sendAnswered, expect, expectRefused, speed, speedRefused, clocks, borrow, counts, memory, latches, pointers, counter, status, enabled, count, suppose, supposeCore, supposeCounts, clocksRefused, figure, changed, nextMove, Row, perform, start, failures}
+use Rattle.examples.specs.Rows.{Action, fill, latch, send, sendAnswered, expect, expectRefused, speed, speedRefused, clocks, borrow, counts, memory, latches, pointers, counter, status, enabled, count, suppose, supposeCore, supposeCounts, clocksRefused, floor, figure, changed, nextMove, Row, perform, start, failures}
 use Rattle.examples.specs.WorkedExamples.{table}
 
 -- the value is another
@@ -45,6 +45,7 @@ pub data OneChanged : Action → Action → Type 0 where
   enabledOr : (t u : Bool) → Other t u → OneChanged (enabled t) (enabled u)
   countIs : (n x : ℕ) → Other n x → OneChanged (count n) (count x)
   clocksRefusedNumber : (z n m : ℕ) → Other n m → OneChanged (clocksRefused z n) (clocksRefused z m)
+  floorIs : (n x : ℕ) → Other n x → OneChanged (floor n) (floor x)
   figureIs : (f : Core → ℕ) (n x : ℕ) → Other n x → OneChanged (figure f n) (figure f x)
   changedValid : (f : Core → Core) (t u : Bool) → Other t u → OneChanged (changed f t) (changed f u)
   moveFrom : (f : ℕ) (i : Bool) (t : ℕ) (j : Bool) (b x : ℕ) → Other f x → OneChanged (nextMove f i t j b) (nextMove x i t j b)
@@ -104,6 +105,7 @@ expects (suppose n) = false
 expects (supposeCore f) = false
 expects (supposeCounts bus held cpu) = false
 expects (clocksRefused n number) = true
+expects (floor n) = true
 expects (figure f n) = true
 expects (changed f t) = true
 expects (nextMove from fromIo to toIo byte) = true

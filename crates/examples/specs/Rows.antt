@@ -17,6 +17,7 @@ use Rattle.rules.specs.Blocks.{blockCount}
 use Rattle.rules.specs.Clock.{stopped}
 use Rattle.rules.specs.Buffers.{placed, flat}
 use Rattle.rules.specs.World.{System, Move, note}
+use Rattle.rules.specs.Floored.{floorAt}
 use Rattle.rules.specs.Calls.{Answer, write, read, setSpeed, grant}
 use Rattle.rules.specs.declared.Core.{Core}
 
@@ -63,6 +64,8 @@ pub data Action : Type 0 where
   supposeCounts : ℕ → ℕ → ℕ → Action
   -- a grant of this many clocks is refused with this number
   clocksRefused : ℕ → ℕ → Action
+  -- the floor under the processor's time is this, 0 for none
+  floor : ℕ → Action
   -- this figure of the core is this
   figure : (Core → ℕ) → ℕ → Action
   -- with the core changed so, the device is valid or not
@@ -172,6 +175,7 @@ perform (supposeCore f) s = seen true (withCore (f (s .world .core)) s)
 perform (supposeCounts bus held cpu) s =
     seen true (record { world = s .world; clocks = record { bus = bus; held = held; cpu = cpu } })
 perform (clocksRefused n number) s = answered number 0 0 (seen true s) (grant flat s n)
+perform (floor n) s = seen (eqb (floorAt s) n) s
 perform (figure f n) s = seen (eqb (f (s .world .core)) n) s
 perform (changed f t) s = seen (Bool·beq (valid (f (s .world .core)) (total (s .clocks))) t) s
 perform (nextMove from fromIo to toIo byte) s = seen (movesSo from fromIo to toIo byte (note flat (s .world) .move)) s

@@ -10,10 +10,9 @@ use Rattle.rules.specs.Parts.{withCycle, withCounter, withMask, withPosition, w
 use Rattle.rules.specs.declared.Core.{Core}
 use Rattle.rules.specs.Speed.{atSpeed}
 use Rattle.rules.specs.Slots.{slotLength}
-use Rattle.rules.specs.Floor.{cpuFloor}
 use Rattle.rules.specs.Floored.{inBurst}
 use Rattle.rules.specs.Bytes.{lowByte, highByte}
-use Rattle.examples.specs.Rows.{Action, Row, row, fill, latch, send, sendWarned, sendRefused, expect, expectRefused, speed, speedRefused, clocks, borrow, counts, memory, latches, pointers, counter, status, enabled, count, suppose, supposeCore, supposeCounts, clocksRefused, figure, changed, nextMove, start, failures}
+use Rattle.examples.specs.Rows.{Action, Row, row, fill, latch, send, sendWarned, sendRefused, expect, expectRefused, speed, speedRefused, clocks, borrow, counts, memory, latches, pointers, counter, status, enabled, count, suppose, supposeCore, supposeCounts, clocksRefused, floor, figure, changed, nextMove, start, failures}
 
 -- the bytes of P1: port A at 1000, four bytes, to port B at 2000, cycles of 2 clocks, continuous
 abbrev pub sheet : List ℕ
@@ -49,10 +48,6 @@ endsWithTheSlot = clocks 21 ∷ enabled true ∷ status 0x3B ∷ clocks 1 ∷ en
 -- the speed code
 abbrev pub speedCode : Core → ℕ
 speedCode c = c .control .speed
-
--- the floor under the processor's time is this one, of a device whose clock counts fit
-abbrev pub floor : ℕ → Action
-floor n = figure (λ c. cpuFloor c 0) n
 
 -- P1 at a speed: a byte in so many clocks, all of them on the bus
 abbrev pub slowed : String → ℕ → ℕ → Row
@@ -1404,8 +1399,10 @@ table =
     ∷ floor 5
     ∷ clocks 5
     ∷ counts 8 0 62
-    ∷ figure (λ c. cpuFloor c 18446744073709551615) 5
-    ∷ figure (λ c. cpuFloor c 18446744073709551616) 0
+    ∷ supposeCounts 18446744073709551615 0 0
+    ∷ floor 5
+    ∷ supposeCounts 18446744073709551615 1 0
+    ∷ floor 0
     ∷ [])
     -- the largest: cycles of 4 + 4 at 3.5 MHz, prescaler 3; with prescaler 2 the slot is no longer than its bus time
     ∷ row "floor at 3.5 MHz"
@@ -1569,6 +1566,8 @@ table =
     ∷ floor 5
     ∷ supposeCore (inSlot 1 4 32 false)
     ∷ floor 0
+    ∷ supposeCore (inSlot 10 4 32 false)
+    ∷ floor 0
     ∷ supposeCore (inSlot 1 4 4 true)
     ∷ floor 0
     ∷ supposeCore (inSlot 1 64 96 true)
@@ -1579,6 +1578,124 @@ table =
     ∷ counts 63 0 1
     ∷ supposeCore (inSlot 1 65 96 true)
     ∷ floor 0
+    ∷ [])
+    -- cycles that differ, and a timing set in a wait: both ports count, in the running slot too
+    ∷ row "floor, cycles in a wait"
+    (send 0x6B (program 0x1000 3 (0x21 ∷ 0x01 ∷ []) 0xCD 0x2000 0x82)
+    ∷ floor 6
+    ∷ clocks 5
+    ∷ counts 5 0 0
+    ∷ clocks 1
+    ∷ counts 5 0 1
+    ∷ send 0x6B (0xC7 ∷ [])
+    ∷ floor 8
+    ∷ clocks 26
+    ∷ counts 5 0 27
+    ∷ clocks 7
+    ∷ counts 12 0 27
+    ∷ clocks 1
+    ∷ counts 12 0 28
+    ∷ send 0x6B (0xCB ∷ [])
+    ∷ floor 9
+    ∷ clocks 24
+    ∷ counts 12 0 52
+    ∷ clocks 8
+    ∷ counts 20 0 52
+    ∷ clocks 1
+    ∷ counts 20 0 53
+    ∷ [])
+    -- parameters that are pending do not count until they are written; lengths of 256 and 4,096 clocks
+    ∷ row "floor, parameters pending"
+    (send 0x6B (0x54 ∷ 0x02 ∷ 0xC1 ∷ 0x50 ∷ 0x20 ∷ 0x01 ∷ [])
+    ∷ floor 7
+    ∷ send 0x6B (0x54 ∷ 0x01 ∷ 0x50 ∷ [])
+    ∷ floor 8
+    ∷ send 0x6B (0x22 ∷ [])
+    ∷ floor 6
+    ∷ send 0x6B (0x00 ∷ [])
+    ∷ floor 0
+    ∷ send 0x6B (0x50 ∷ 0x20 ∷ 0x08 ∷ [])
+    ∷ floor 8
+    ∷ send 0x6B (0x50 ∷ 0x20 ∷ 0x80 ∷ [])
+    ∷ floor 8
+    ∷ [])
+    -- in a block's last slot too the registers count, though without auto restart no slot follows
+    ∷ row "floor, speed lowered in the last slot"
+    (send 0x6B (program 0x1000 1 (0x22 ∷ 0x02 ∷ []) 0xCD 0x2000 0x82)
+    ∷ floor 5
+    ∷ clocks 10
+    ∷ speed 0
+    ∷ floor 33
+    ∷ clocks 53
+    ∷ enabled true
+    ∷ floor 33
+    ∷ clocks 1
+    ∷ enabled false
+    ∷ counts 4 0 60
+    ∷ floor 33
+    ∷ clocks 33
+    ∷ counts 4 0 93
+    ∷ [])
+    -- a slot that runs counts until its last clock, or until Disable or Reset drops it
+    ∷ row "floor, a running slot dropped"
+    (speed 0
+    ∷ send 0x6B (program 0x1000 3 (0x22 ∷ 0x02 ∷ []) 0xCD 0x2000 0x82)
+    ∷ clocks 32
+    ∷ speed 3
+    ∷ clocks 31
+    ∷ enabled true
+    ∷ floor 33
+    ∷ send 0x6B (0x83 ∷ [])
+    ∷ floor 5
+    ∷ clocks 10
+    ∷ counts 32 0 41
+    ∷ send 0x6B (0x87 ∷ [])
+    ∷ clocks 10
+    ∷ floor 5
+    ∷ send 0x6B (0xC3 ∷ [])
+    ∷ floor 0
+    ∷ send 0x6B (0x50 ∷ 0x20 ∷ 0x01 ∷ [])
+    ∷ floor 9
+    ∷ [])
+    -- refused calls and bytes put into memory, between the clocks of a slot
+    ∷ row "floor, refused calls in between"
+    (send 0x6B (program 0x1000 3 (0x22 ∷ 0x01 ∷ []) 0xCD 0x2000 0x82)
+    ∷ floor 5
+    ∷ clocks 2
+    ∷ sendRefused 0x6B 0x83 3
+    ∷ expectRefused 0x6B 3
+    ∷ speedRefused 4 7
+    ∷ borrow 0 65536 9 4
+    ∷ fill 0x1000 (0xB1 ∷ [])
+    ∷ floor 5
+    ∷ clocks 2
+    ∷ counts 4 0 0
+    ∷ clocks 1
+    ∷ counts 4 0 1
+    ∷ [])
+    -- the largest floor across slots, a block's end and its restart
+    ∷ row "floor of 65 across a restart"
+    (speed 0
+    ∷ send 0x6B (0x83 ∷ 0x7D ∷ 0x00 ∷ 0x10 ∷ 0x02 ∷ 0x00 ∷ 0x54 ∷ 0x00 ∷ 0x50 ∷ 0x20 ∷ 0x03 ∷ 0xCD ∷ 0x00 ∷ 0x20 ∷ 0xA2 ∷ 0xCF ∷ 0x87 ∷ [])
+    ∷ floor 65
+    ∷ clocks 64
+    ∷ counts 64 0 0
+    ∷ clocks 1
+    ∷ counts 64 0 1
+    ∷ clocks 31
+    ∷ floor 65
+    ∷ clocks 64
+    ∷ counts 128 0 32
+    ∷ clocks 1
+    ∷ counts 128 0 33
+    ∷ clocks 31
+    ∷ enabled true
+    ∷ counter 0
+    ∷ floor 65
+    ∷ clocks 64
+    ∷ counts 192 0 64
+    ∷ clocks 1
+    ∷ counts 192 0 65
     ∷ [])
     ∷ []
 

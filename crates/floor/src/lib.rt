@@ -1,4 +1,4 @@
-// A floor under the processor's time: of how many clocks in a row the processor has one at least.
+// A floor under the processor's time: a number of clocks in a row of which the processor has one at least.
 ghost use mathlib.Core.Path.{_≡_};
 ghost use Rattle.rules.specs.Slots.{larger};
 ghost use Rattle.rules.specs.Validity.{total};
@@ -45,9 +45,9 @@ fn floor_of(c: Core) -> u32
     (most as u32) + 1
 }
 
-// Among any so many clocks in a row, from the next one on, one at least is the processor's, as long as no port access and no
-// speed call is accepted; at most 65. 0, which claims nothing, if the device is not valid, or if the slot that runs or the one
-// that the registers start is continuous or no longer than its bus time.
+// Among any so many clocks in a row, the next one or a later one being the first, one at least is the processor's, as long as up
+// to the last of them no port access and no speed call is accepted; at most 65. 0, which claims nothing, if the device is not
+// valid, or if the slot that runs or the one that the registers start is continuous or no longer than its bus time.
 pub fn cpu_floor(c: Core, k: Clocks) -> u32
     ensures { λ r. ⌜ r ≡ cpuFloor c (total k) ⌝ }
 {

@@ -1,9 +1,11 @@
--- Laws of lists of calls: a list behind another, a valid device stays valid, and outside changes keep a flat memory's length.
+-- Laws of lists of calls: a list behind another, a valid device stays valid, outside changes keep a flat memory's length, and
+-- empty latches are refused.
 -- Assumes nothing.
 use Prim.Native.Nat.{ℕ}
+use native.Mathlib.Omega.{arith}
 use mathlib.Core.Path.{_≡_, refl, _∙_, ap}
 use mathlib.Core.List.{List, [], _∷_, _++_}
-use lib.ListN.{set, length-set}
+use lib.ListN.{length, set, length-set}
 use Rattle.rules.specs.Bytes.{AreBytes}
 use Rattle.rules.specs.Buffers.{Store}
 use Rattle.rules.specs.World.{System}
@@ -43,3 +45,7 @@ pub pokes-keep-length : PokesKeepLength
 unfolding poked
 pokes-keep-length [] m = refl
 pokes-keep-length (p ∷ ps) m = pokes-keep-length ps (set m (p .address) (p .byte)) ∙ length-set m (p .address) (p .byte)
+
+-- empty latches are of a wrong length
+pub empty-wrong : length {A = ℕ} [] ≡ 65536 → ⊥
+empty-wrong e = let z : _≡_ {A = ℕ} 0 65536 = e in omega arith

@@ -24,9 +24,9 @@ use Rattle.rules.specs.World.{World, System, note, stepCounted, clocked}
 use Rattle.rules.specs.Calls.{Answered}
 use Rattle.rules.specs.Entries.{Outside, Entry, portWrite, portRead, speedCall, clockGrant, otherGrant, outsideChange, enter, run, systemAtPowerOn, runOver}
 use Rattle.rules.specs.History.{Event, clockNoted, counterZeroed, Past, withCore, writePassed, clockPassed, clocksPassed, grantPassed, changePassed, notedUnless, noteEntry, history, pastAtPowerOn, clocksPassedBy, historyBy}
-use Rattle.rules.specs.Accounts.{ofKind, clocksNoted, clocksAsked, clocksAccepted}
+use Rattle.rules.specs.Accounts.{ofKind, clocksNoted, clocksAsked, clocksAccepted, numbersOf}
 use Rattle.rules.specs.Floor.{shared, allShared, floorOf, cpuFloor}
-use Rattle.rules.specs.Floored.{Shared, AllShared, OneMore, FloorExact, kindAfter, CpuAmong, floorAt, FloorHolds, LeavesRegisters, RegistersLeft, OnlyClocks, CpuNoted, endOf, answersBehind, FloorBehind, FloorHoldsInLists, inBurst, FloorNearest}
+use Rattle.rules.specs.Floored.{Shared, AllShared, OneOf, ofRegisters, ofRunning, OneMore, FloorExact, kindAfter, CpuAmong, floorAt, FloorHolds, MayPass, Undisturbed, OnlyClocks, CpuNoted, endOf, answersBehind, FloorBehind, FloorHoldsInLists, FloorNearest, threeOfCpu, eightOnBus, FloorWorked}
 use Rattle.rules.specs.Opened.{opened}
 use Rattle.rules.specs.declared.Control.{Control}
 use Rattle.rules.specs.declared.Slot.{Slot}
@@ -39,7 +39,7 @@ use Rattle.rules.proofs.Slots.{slot-begins, slot-runs}
 use Rattle.rules.proofs.Framing.{clock-timed}
 use Rattle.rules.proofs.World.{clocked-zero, clocked-suc, clocked-add, clocked-keeps}
 use Rattle.rules.proofs.Calls.{valid-core, device-valid}
-use Rattle.rules.proofs.Entries.{reached-valid}
+use Rattle.rules.proofs.Entries.{reached-valid, empty-wrong}
 use Rattle.rules.proofs.Accounts.{Agree, no-clocks, entry-step, start-agrees, ends}
 use Rattle.rules.proofs.SplittingLists.{history-behind}
 
@@ -90,12 +90,24 @@ larger-cases P x y p q = pick-both P (ltb x y) y x q p
 larger-same : (x : ℕ) → larger x x ≡ x
 larger-same x = larger-cases (λ n. n ≡ x) x x refl refl
 
+-- with no clock elapsed, the registers' bus time is the one that counts
+alone : (c : Core) → c .slot .elapsed ≡ 0 → floorOf c ≡ newSlot c .bus + 1
+unfolding floorOf
+alone c e =
+    ap (λ (s : Slot). larger (newSlot c .bus) (s .bus) + 1) (slot-begins c e) ∙ ap (λ n. n + 1) (larger-same (newSlot c .bus))
+
 bound : (c : Core) → OneMore c (floorOf c)
 unfolding floorOf
 bound c =
     record {
-      alone = λ e. ap (λ (s : Slot). larger (newSlot c .bus) (s .bus) + 1) (slot-begins c e) ∙ ap (λ n. n + 1) (larger-same (newSlot c .bus));
-      both = λ n. ap (λ (s : Slot). larger (newSlot c .bus) (s .bus) + 1) (slot-runs c n);
+      registers = let h = larger-left (newSlot c .bus) (slotOf c .bus) in omega (arith, h);
+      running =
+          λ n.
+          subst (λ (s : Slot). s .bus < larger (newSlot c .bus) (slotOf c .bus) + 1) (slot-runs c n)
+          (let h = larger-right (newSlot c .bus) (slotOf c .bus) in omega (arith, h));
+      one =
+          larger-cases (λ n. OneOf c (n + 1)) (newSlot c .bus) (slotOf c .bus) (ofRegisters refl)
+          (slot-cases (λ (s : Slot). OneOf c (s .bus + 1)) c (ofRegisters refl) (λ n. ofRunning n refl));
     }
 
 -- ---- the answer
@@ -161,11 +173,12 @@ floor-exact =
       answered = answered;
       invalid = invalid;
       unmet = unmet;
-      least =
+      most = λ c v. floor-range c v .most;
+      most-answered = λ c sum. floor-cases (λ n. n ≤ 65) c sum (omega arith) (λ v f. floor-range c (valid-core c sum v) .most);
+      least-answered =
           λ c sum.
           floor-cases (λ n. (n ≡ 0 → ⊥) → 5 ≤ n) c sum (λ n. absurd (n refl))
           (λ v f n. floor-range c (valid-core c sum v) .least);
-      most = λ c sum. floor-cases (λ n. n ≤ 65) c sum (omega arith) (λ v f. floor-range c (valid-core c sum v) .most);
     }
 
 -- ---- the slots to come, within a bound
@@ -357,7 +370,7 @@ module _ {M : Type 0} (σ : Store M) where
   tight : (s : System M) (n : ℕ) → AllShared (s .world .core) → s .world .core .enabled ≡ true → s .world .core .slot .elapsed ≡ 0 → n + 1 < floorOf (s .world .core) → kindAfter σ n s ≡ busClock
   tight s n f on e h =
       let c = s .world .core in
-      let b = bound c .alone e in
+      let b = alone c e in
       let z : left c ≡ newSlot c .bus - c .slot .elapsed = left-on c on ∙ ap (λ (t : Slot). t .bus - c .slot .elapsed) (slot-begins c e) in
       on-bus _ n (newSlot c .bus - suc n) s (all-within c f) (z ∙ omega (arith, b, h, e))
 
@@ -365,6 +378,11 @@ pub floor-holds : FloorHolds
 floor-holds =
     record {
       clocks = floor-clocks;
+      ever =
+          λ σ s before z.
+          let a = floor-clocks σ s before z in
+          let h = floor-exact .most-answered (s .world .core) (total (s .clocks)) in
+          record { offset = a .offset; within = (let l = a .within in omega (arith, l, h)); kind = a .kind };
       counts = λ σ s before n z h. among-counts σ s before (floorAt s) n (floor-clocks σ s before z) h;
       unchecked = unchecked;
       tight = tight;
@@ -491,7 +509,7 @@ module _ {M C : Type 0} (σ : Store M) (ω : Outside M C) (most : ℕ) (first : 
       (λ e. clocks-behind n m _ (same-behind n p _ refl refl b)) (λ e. subst (λ k. Behind most first k p) (sym (add-zero n)) b)
 
   -- one entry
-  entry-behind : (e : Entry σ C) (n : ℕ) (p : Past M) → (noteEntry σ ω e p .number ≡ 0 → LeavesRegisters e) → Behind most first n p → Behind most first (n + pick (eqb (noteEntry σ ω e p .number) 0) (clocksAsked e) 0) (noteEntry σ ω e p .past)
+  entry-behind : (e : Entry σ C) (n : ℕ) (p : Past M) → (noteEntry σ ω e p .number ≡ 0 → MayPass e) → Behind most first n p → Behind most first (n + pick (eqb (noteEntry σ ω e p .number) 0) (clocksAsked e) 0) (noteEntry σ ω e p .past)
   unfolding notedUnless
   entry-behind (portWrite port byte) n p r b =
       refused-behind (noteEntry σ ω (portWrite port byte) p .number) n (writePassed port byte p) p r b
@@ -506,8 +524,8 @@ module _ {M C : Type 0} (σ : Store M) (ω : Outside M C) (most : ℕ) (first : 
       (same-behind n p (changePassed ω x p) refl refl b)
 
   -- a list of entries
-  list-behind : (es : List (Entry σ C)) (n : ℕ) (s : System M) (p : Past M) → Agree s p → RegistersLeft es (run σ ω es s .answers) → Behind most first n p → Behind most first (n + clocksAccepted es (run σ ω es s .answers)) (history σ ω es p .past)
-  unfolding runOver historyBy clocksAccepted RegistersLeft
+  list-behind : (es : List (Entry σ C)) (n : ℕ) (s : System M) (p : Past M) → Agree s p → Undisturbed es (run σ ω es s .answers) → Behind most first n p → Behind most first (n + clocksAccepted es (run σ ω es s .answers)) (history σ ω es p .past)
+  unfolding runOver historyBy clocksAccepted Undisturbed
   list-behind [] n s p a r b = subst (λ k. Behind most first k p) (sym (add-zero n)) b
   list-behind (e ∷ es) n s p a r b =
       let t = entry-step σ ω e s p a in
@@ -535,7 +553,7 @@ module _ {M C : Type 0} (σ : Store M) (ω : Outside M C) (m : M) (l : List ℕ)
         slots = w;
       }
 
-  floor-lists : AllShared endCore → RegistersLeft after (answersBehind σ ω m l before after) → FloorBehind σ ω m l before after (floorOf endCore)
+  floor-lists : AllShared endCore → Undisturbed after (answersBehind σ ω m l before after) → FloorBehind σ ω m l before after (floorOf endCore)
   unfolding floorOf
   floor-lists f r =
       let b = list-behind σ ω _ _ after 0 _ _ (ends σ ω before _ _ (start-agrees m l) .agree) r (start-behind f) in
@@ -551,7 +569,11 @@ pub floor-holds-in-lists : FloorHoldsInLists
 floor-holds-in-lists =
     record {
       lists = λ M C σ ω m l before after f r. floor-lists σ ω m l before after f r;
-      answered = λ M C σ ω m l before b f. answered _ _ (device-valid _ _ (reached-valid σ ω m l before b)) f;
+      answered =
+          λ M C σ ω m l before after z r.
+          floor-cases (λ n. (n ≡ 0 → ⊥) → FloorBehind σ ω m l before after n) _ _ (λ n. absurd (n refl))
+          (λ v f n. floor-lists σ ω m l before after f r) z;
+      reached = λ M C σ ω m l before b f. answered _ _ (device-valid _ _ (reached-valid σ ω m l before b)) f;
     }
 
 -- ---- worked out
@@ -562,6 +584,40 @@ floor-nearest =
     record {
       slowest = record { valid = refl; floor = refl; fewer = refl; enough = refl };
       quickest = record { valid = refl; floor = refl; fewer = refl; enough = refl };
-      no-longer = refl;
-      none = refl;
+      not-longer = record { valid = refl; floor = refl; many = omega arith; none = refl };
+      continuous = record { valid = refl; floor = refl; many = omega arith; none = refl };
+      running = refl;
+      rest = refl;
+      no-wait = record { valid = refl; floor = refl; many = omega arith; none = refl };
+    }
+
+-- refusals
+three : _≡_ {A = ℕ} 3 0 → ⊥
+three e = omega (arith, e)
+
+seven : _≡_ {A = ℕ} 7 0 → ⊥
+seven e = omega (arith, e)
+
+pub floor-worked : FloorWorked empty-wrong
+unfolding opened Undisturbed clocksNoted numbersOf
+floor-worked =
+    record {
+      shared = record { registers = record { burst = refl; longer = omega arith }; running = λ n. absurd (n refl) };
+      undisturbed = (
+        λ e. tt,
+        (
+          λ e. absurd (three e),
+          (
+            λ e. absurd (three e),
+            (λ e. absurd (seven e), (λ e. tt, (λ e. tt, (λ e. tt, (λ e. tt, tt))))),
+          ),
+        ),
+      );
+      numbers = refl;
+      floor = refl;
+      noted = refl;
+      eight = λ f. let h = f threeOfCpu eightOnBus [] refl refl in omega (arith, h);
+      write = λ port byte u. u .0 refl;
+      read = λ port byte u. u .0 refl;
+      speed = λ code u. u .0 refl;
     }

@@ -1,4 +1,4 @@
--- A floor under the processor's time (document 02): of how many clocks in a row the processor has one at least.
+-- A floor under the processor's time (document 02): a number of clocks in a row of which the processor has one at least.
 -- Assumes nothing.
 use Prim.Native.Nat.{ℕ, _+_}
 use mathlib.Core.Bool.{Bool}
@@ -14,8 +14,8 @@ use Rattle.rules.specs.declared.Core.{Core}
 unfoldable pub shared : Slot → Bool
 shared s = every (s .burst ∷ ltb (s .bus) (s .length) ∷ [])
 
--- it has clocks of every slot to come: of the one that the present registers start, enabled or not, and of the one that runs,
--- if clocks of it have elapsed
+-- it has clocks of every slot that runs or is to come: of the one that the present registers start, enabled or not, and of the
+-- one that runs, if clocks of it have elapsed
 unfoldable pub allShared : Core → Bool
 allShared c = every (shared (newSlot c) ∷ shared (slotOf c) ∷ [])
 

@@ -1,23 +1,24 @@
--- The floor under the processor's time holds, over single clocks and over lists of calls; when there is one; that it is at
--- most 65, and that no smaller one would do.
+-- The floor under the processor's time: when there is one, and which; that it holds, over single clocks and over lists of calls;
+-- that it is at most 65; and that it is reached: a device about to begin a slot has one clock fewer without the processor.
 -- Assumes nothing.
 use Prim.Native.Nat.{ℕ, _+_, _≤_, _<_}
-use mathlib.Core.Path.{_≡_}
-use mathlib.Core.Bool.{true}
+use mathlib.Core.Path.{_≡_, refl}
+use mathlib.Core.Bool.{true, false}
 use mathlib.Core.List.{List, [], _∷_, _++_}
-use lib.ListN.{length}
+use mathlib.Core.Option.{none, some}
+use lib.ListN.{length, replicate}
 use Rattle.rules.specs.Bytes.{AreBytes}
-use Rattle.rules.specs.Parts.{withCycle, withLength, withPrescaler, withBurst, withSpeed, withA, withB, withBlock, withControl, withEnabled}
-use Rattle.rules.specs.Slots.{larger, newSlot}
+use Rattle.rules.specs.Parts.{withCycle, withLength, withPrescaler, withBurst, withSpeed, withA, withB, withBlock, withControl, withEnabled, withSlot}
+use Rattle.rules.specs.Slots.{newSlot}
 use Rattle.rules.specs.PowerOn.{powerOn, noClocks}
 use Rattle.rules.specs.Validity.{validCore, valid, total}
 use Rattle.rules.specs.Clock.{Kind, busClock, cpuClock, clockOf}
 use Rattle.rules.specs.Buffers.{Store, flat}
 use Rattle.rules.specs.World.{System, system, clocked}
-use Rattle.rules.specs.Calls.{Answered}
+use Rattle.rules.specs.Calls.{Answered, accepted}
 use Rattle.rules.specs.Entries.{Outside, Entry, portWrite, portRead, speedCall, clockGrant, otherGrant, outsideChange, bytesWritten, run, systemAtPowerOn}
 use Rattle.rules.specs.History.{Event, clockNoted, counterZeroed, history, pastAtPowerOn}
-use Rattle.rules.specs.Accounts.{clocksNoted, clocksAccepted}
+use Rattle.rules.specs.Accounts.{clocksNoted, clocksAccepted, numbersOf}
 use Rattle.rules.specs.Floor.{allShared, floorOf, cpuFloor}
 use Rattle.rules.specs.declared.Slot.{Slot}
 use Rattle.rules.specs.declared.Clocks.{Clocks}
@@ -30,17 +31,23 @@ pub record Shared (s : Slot) : Type 0 where
   pub burst : s .burst ≡ true
   pub longer : s .bus < s .length
 
--- it has clocks of every slot to come
+-- it has clocks of every slot that runs or is to come
 pub record AllShared (c : Core) : Type 0 where
   -- of the one that the present registers start, enabled or not
   pub registers : Shared (newSlot c)
   -- of the one that runs, if clocks of it have elapsed
   pub running : (c .slot .elapsed ≡ 0 → ⊥) → Shared (c .slot)
 
--- one clock more than the largest of these bus times
+-- one more than the bus time of one of them
+pub data OneOf (c : Core) (n : ℕ) : Type 0 where
+  ofRegisters : n ≡ newSlot c .bus + 1 → OneOf c n
+  ofRunning : (c .slot .elapsed ≡ 0 → ⊥) → n ≡ c .slot .bus + 1 → OneOf c n
+
+-- one more than the largest of their bus times
 pub record OneMore (c : Core) (n : ℕ) : Type 0 where
-  pub alone : c .slot .elapsed ≡ 0 → n ≡ newSlot c .bus + 1
-  pub both : (c .slot .elapsed ≡ 0 → ⊥) → n ≡ larger (newSlot c .bus) (c .slot .bus) + 1
+  pub registers : newSlot c .bus < n
+  pub running : (c .slot .elapsed ≡ 0 → ⊥) → c .slot .bus < n
+  pub one : OneOf c n
 
 pub record FloorExact : Type 0 where
   -- the condition, and the bound, of any core whatsoever
@@ -51,9 +58,10 @@ pub record FloorExact : Type 0 where
   pub answered : (c : Core) (sum : ℕ) → valid c sum ≡ true → AllShared c → cpuFloor c sum ≡ floorOf c
   pub invalid : (c : Core) (sum : ℕ) → (valid c sum ≡ true → ⊥) → cpuFloor c sum ≡ 0
   pub unmet : (c : Core) (sum : ℕ) → (AllShared c → ⊥) → cpuFloor c sum ≡ 0
-  -- it is 0, or 5 to 65
-  pub least : (c : Core) (sum : ℕ) → (cpuFloor c sum ≡ 0 → ⊥) → 5 ≤ cpuFloor c sum
-  pub most : (c : Core) (sum : ℕ) → cpuFloor c sum ≤ 65
+  -- of a valid core the bound is at most 65, and so is the answer, which is 0 or 5 at least
+  pub most : (c : Core) → validCore c ≡ true → floorOf c ≤ 65
+  pub most-answered : (c : Core) (sum : ℕ) → cpuFloor c sum ≤ 65
+  pub least-answered : (c : Core) (sum : ℕ) → (cpuFloor c sum ≡ 0 → ⊥) → 5 ≤ cpuFloor c sum
 
 -- ---- over clocks
 
@@ -74,13 +82,15 @@ floorAt s = cpuFloor (s .world .core) (total (s .clocks))
 pub record FloorHolds : Type 1 where
   -- wherever there is a floor: among any so many clocks in a row, the next one or any later one being the first of them
   pub clocks : {M : Type 0} (σ : Store M) (s : System M) (before : ℕ) → (floorAt s ≡ 0 → ⊥) → CpuAmong σ s before (floorAt s)
+  -- and among any 65
+  pub ever : {M : Type 0} (σ : Store M) (s : System M) (before : ℕ) → (floorAt s ≡ 0 → ⊥) → CpuAmong σ s before 65
   -- in the counts: over so many clocks, or more, the processor's grows
   pub counts :
       {M : Type 0} (σ : Store M) (s : System M) (before n : ℕ) → (floorAt s ≡ 0 → ⊥) → floorAt s ≤ n
       → clocked σ before s .clocks .cpu < clocked σ (before + n) s .clocks .cpu
   -- the clocks need the condition alone: so it is of any core whatsoever that meets it, valid or not
   pub unchecked : {M : Type 0} (σ : Store M) (s : System M) (before : ℕ) → AllShared (s .world .core) → CpuAmong σ s before (floorOf (s .world .core))
-  -- no smaller number would do: of an enabled device with no clock elapsed, one clock fewer has none of the processor
+  -- of an enabled device with no clock elapsed, one clock fewer has none of the processor; of others a smaller number may do
   pub tight :
       {M : Type 0} (σ : Store M) (s : System M) (n : ℕ) → AllShared (s .world .core)
       → s .world .core .enabled ≡ true → s .world .core .slot .elapsed ≡ 0
@@ -88,20 +98,21 @@ pub record FloorHolds : Type 1 where
 
 -- ---- over lists
 
--- an entry that leaves the registers: a grant, or an outside change of memory
-abbrev pub LeavesRegisters : {M C : Type 0} {σ : Store M} → Entry σ C → Type 0
-LeavesRegisters (portWrite port byte) = ⊥
-LeavesRegisters (portRead port) = ⊥
-LeavesRegisters (speedCall code) = ⊥
-LeavesRegisters (clockGrant n) = Unit {0}
-LeavesRegisters (otherGrant n b wrong) = Unit {0}
-LeavesRegisters (outsideChange x) = Unit {0}
+-- what may be accepted in between: a grant or an outside change of memory, no port access, be it a read, and no speed call; a
+-- grant that lends other buffers is refused in any case
+abbrev pub MayPass : {M C : Type 0} {σ : Store M} → Entry σ C → Type 0
+MayPass (portWrite port byte) = ⊥
+MayPass (portRead port) = ⊥
+MayPass (speedCall code) = ⊥
+MayPass (clockGrant n) = Unit {0}
+MayPass (otherGrant n b wrong) = Unit {0}
+MayPass (outsideChange x) = Unit {0}
 
--- all that is accepted of a list leaves them: its writes, reads and speed calls are refused
-unfoldable pub RegistersLeft : {M C : Type 0} {σ : Store M} → List (Entry σ C) → List Answered → Type 0
-RegistersLeft [] as′ = Unit {0}
-RegistersLeft (e ∷ es) [] = Unit {0}
-RegistersLeft (e ∷ es) (a ∷ as′) = (a .number ≡ 0 → LeavesRegisters e) × RegistersLeft es as′
+-- nothing else is accepted of a list, by the answers to its entries, one for each
+unfoldable pub Undisturbed : {M C : Type 0} {σ : Store M} → List (Entry σ C) → List Answered → Type 0
+Undisturbed [] as′ = Unit {0}
+Undisturbed (e ∷ es) [] = Unit {0}
+Undisturbed (e ∷ es) (a ∷ as′) = (a .number ≡ 0 → MayPass e) × Undisturbed es as′
 
 -- only clocks are noted
 unfoldable pub OnlyClocks : List Event → Type 0
@@ -109,7 +120,7 @@ OnlyClocks [] = Unit {0}
 OnlyClocks (clockNoted n ∷ es) = OnlyClocks es
 OnlyClocks (counterZeroed held ∷ es) = ⊥
 
--- wherever n events in a row stand among these, one is a clock of the processor
+-- wherever n events in a row stand among these, of which the latest is the first, one is a clock of the processor
 abbrev pub CpuNoted : ℕ → List Event → Type 0
 CpuNoted n es = (later these earlier : List Event) → es ≡ later ++ (these ++ earlier) → length these ≡ n → 1 ≤ clocksNoted cpuClock these
 
@@ -133,15 +144,21 @@ module _ {M C : Type 0} (σ : Store M) (ω : Outside M C) (m : M) (l : List ℕ)
     pub floor : CpuNoted n noted
 
 pub record FloorHoldsInLists : Type 1 where
-  -- for every list whose end meets the condition, and every list behind it, all accepted entries of which are grants or
-  -- outside changes
+  -- for every list whose end meets the condition, and every list behind it of which nothing but grants and outside changes is
+  -- accepted
   pub lists :
       (M C : Type 0) (σ : Store M) (ω : Outside M C) (m : M) (l : List ℕ) (before after : List (Entry σ C))
       → AllShared (endOf σ ω m l before .world .core)
-      → RegistersLeft after (answersBehind σ ω m l before after)
+      → Undisturbed after (answersBehind σ ω m l before after)
       → FloorBehind σ ω m l before after (floorOf (endOf σ ω m l before .world .core))
-  -- and this bound is what is answered there
+  -- for every list at whose end a floor is answered, with this one
   pub answered :
+      (M C : Type 0) (σ : Store M) (ω : Outside M C) (m : M) (l : List ℕ) (before after : List (Entry σ C))
+      → (floorAt (endOf σ ω m l before) ≡ 0 → ⊥)
+      → Undisturbed after (answersBehind σ ω m l before after)
+      → FloorBehind σ ω m l before after (floorAt (endOf σ ω m l before))
+  -- and it is answered wherever a list's end meets the condition
+  pub reached :
       (M C : Type 0) (σ : Store M) (ω : Outside M C) (m : M) (l : List ℕ) (before : List (Entry σ C))
       → AreBytes (bytesWritten before)
       → AllShared (endOf σ ω m l before .world .core)
@@ -162,17 +179,108 @@ inBurst speed cycle prescaler n =
 abbrev pub countsAfter : ℕ → Core → Clocks
 countsAfter n c = clocked flat n (system c (record { memory = []; latches = [] }) noClocks) .clocks
 
--- as many clocks as the bus time have none of the processor, and with one more there is one
+-- as many clocks as this bus time have none of the processor, and with one more there is one
 pub record TightAt (bus : ℕ) (c : Core) : Type 0 where
   pub valid : validCore c ≡ true
   pub floor : cpuFloor c 0 ≡ bus + 1
   pub fewer : countsAfter bus c ≡ record { bus = bus; held = 0; cpu = 0 }
   pub enough : countsAfter (bus + 1) c ≡ record { bus = bus; held = 0; cpu = 1 }
 
+-- the same, but that n clocks of a slot with this bus time and length have elapsed
+abbrev pub inOwnSlot : ℕ → ℕ → ℕ → Core → Core
+inOwnSlot n bus length c = withSlot (record { elapsed = n; bus = bus; length = length; burst = true }) c
+
+-- the same, but continuous
+abbrev pub inContinuous : Core → Core
+inContinuous c = withControl (withBurst false (c .control)) c
+
+-- no floor, and so many clocks, more than 65, with none of the processor
+pub record NoFloor (bus held : ℕ) (c : Core) : Type 0 where
+  pub valid : validCore c ≡ true
+  pub floor : cpuFloor c 0 ≡ 0
+  pub many : 65 < bus + held
+  pub none : countsAfter (bus + held) c ≡ record { bus = bus; held = held; cpu = 0 }
+
 pub record FloorNearest : Type 0 where
   -- factor 8 with cycles of 4 + 4, prescaler 3, and factor 1 with 2 + 2, prescaler 1
   pub slowest : TightAt 64 (inBurst 0 4 3 1)
   pub quickest : TightAt 4 (inBurst 3 2 1 1)
-  -- a slot no longer than its bus time: no floor, and no clock of the processor in two blocks' time
-  pub no-longer : cpuFloor (inBurst 0 4 2 2) 0 ≡ 0
-  pub none : countsAfter 128 (inBurst 0 4 2 2) ≡ record { bus = 128; held = 0; cpu = 0 }
+  -- slots no longer than their bus time; continuous ones
+  pub not-longer : NoFloor 128 0 (inBurst 0 4 2 2)
+  pub continuous : NoFloor 12 84 (inContinuous (inBurst 3 2 1 3))
+  -- a slot that runs counts with its own figures: one clock of the largest bus time has elapsed, and the registers' is 4
+  pub running : cpuFloor (inOwnSlot 1 64 96 (inBurst 3 2 1 1)) 0 ≡ 65
+  pub rest : countsAfter 63 (inOwnSlot 1 64 96 (inBurst 3 2 1 1)) ≡ record { bus = 63; held = 0; cpu = 0 }
+  -- and one that has no wait: no floor, though the processor has clocks of every other slot
+  pub no-wait : NoFloor 67 0 (inOwnSlot 1 64 64 (inBurst 3 2 1 2))
+
+-- ---- a list, worked out
+
+-- a memory of which no byte is kept, and latches of the right length
+abbrev pub blank : Store (Unit {0})
+blank = record { load = λ m address. 0; store = λ m address byte. m; refusal = λ m. 0; refusal-kept = λ m address byte. refl }
+
+abbrev pub nothingOutside : Outside (Unit {0}) (Unit {0})
+nothingOutside = record { change = λ x m. m }
+
+abbrev pub zeroLatches : List ℕ
+zeroLatches = replicate 65536 0
+
+-- in Zilog mode a block of one byte in burst with prescaler 1: 8 clocks on the bus, 24 for the processor
+abbrev pub oneByte : List (Entry blank (Unit {0}))
+oneByte = portWrite 0x0B 0xC1 ∷ portWrite 0x0B 0x50 ∷ portWrite 0x0B 0x20 ∷ portWrite 0x0B 0x01 ∷ portWrite 0x0B 0x87 ∷ []
+
+-- a clock of a kind on which nothing moves
+abbrev pub still : Kind → Event
+still k = clockNoted (record { kind = k; move = none; zeroed = none })
+
+-- what is noted of eleven clocks: three of the processor behind the byte's eight
+abbrev pub threeOfCpu : List Event
+threeOfCpu = still cpuClock ∷ still cpuClock ∷ still cpuClock ∷ []
+
+abbrev pub eightOnBus : List Event
+eightOnBus =
+    clockNoted
+    (record {
+      kind = busClock;
+      move = some (record { from = record { address = 0; io = false }; to = record { address = 0; io = false }; byte = 0 });
+      zeroed = none;
+    })
+    ∷ replicate 7 (still busClock)
+
+-- empty latches are of a wrong length
+module _ (wrong : length {A = ℕ} [] ≡ 65536 → ⊥) where
+  -- three grants, and between them every kind of entry that may stand there
+  abbrev pub elevenClocks : List (Entry blank (Unit {0}))
+  elevenClocks =
+      clockGrant 3
+      ∷ portWrite 0x0B 0x83
+      ∷ portRead 0x0B
+      ∷ speedCall 4
+      ∷ otherGrant 1 (record { memory = tt; latches = [] }) (λ e. wrong)
+      ∷ outsideChange tt
+      ∷ clockGrant 5
+      ∷ clockGrant 3
+      ∷ []
+
+  abbrev endOfOneByte : System (Unit {0})
+  endOfOneByte = endOf blank nothingOutside tt zeroLatches oneByte
+
+  abbrev answersToEleven : List Answered
+  answersToEleven = answersBehind blank nothingOutside tt zeroLatches oneByte elevenClocks
+
+  pub record FloorWorked : Type 0 where
+    -- the claim is about this list
+    pub shared : AllShared (endOfOneByte .world .core)
+    pub undisturbed : Undisturbed elevenClocks answersToEleven
+    pub numbers : numbersOf answersToEleven ≡ 0 ∷ 3 ∷ 3 ∷ 7 ∷ 5 ∷ 0 ∷ 0 ∷ 0 ∷ []
+    -- its floor is 9, and of eight clocks in a row, be it not the latest, there may be none of the processor
+    pub floor : floorAt endOfOneByte ≡ 9
+    pub noted :
+        history blank nothingOutside (oneByte ++ elevenClocks) (pastAtPowerOn tt zeroLatches) .past .events
+        ≡ (threeOfCpu ++ eightOnBus) ++ history blank nothingOutside oneByte (pastAtPowerOn tt zeroLatches) .past .events
+    pub eight : CpuNoted 8 (threeOfCpu ++ eightOnBus) → ⊥
+    -- an accepted access, or speed call, disturbs
+    pub write : (port byte : ℕ) → Undisturbed {C = Unit {0}} {σ = blank} (portWrite port byte ∷ []) (accepted 0 ∷ []) → ⊥
+    pub read : (port byte : ℕ) → Undisturbed {C = Unit {0}} {σ = blank} (portRead port ∷ []) (accepted byte ∷ []) → ⊥
+    pub speed : (code : ℕ) → Undisturbed {C = Unit {0}} {σ = blank} (speedCall code ∷ []) (accepted 0 ∷ []) → ⊥

@@ -107,10 +107,10 @@ impl Device {
         valid::is_valid(core, clocks)
     }
 
-    // A floor under the processor's time: among any so many clocks in a row, from the next one on, one at least is the
-    // processor's, as long as no port access and no speed call is accepted. At most 65. 0, which claims nothing, if the device
-    // is not valid, or if the slot that runs or the one that the registers start, enabled or not, is continuous or no longer
-    // than its bus time.
+    // A floor under the processor's time: among any so many clocks in a row, the next one or a later one being the first, one
+    // at least is the processor's, as long as up to the last of them no port access and no speed call is accepted and nobody
+    // changes the device otherwise. At most 65. 0, which claims nothing, if the device is not valid, or if the slot that runs or
+    // the one that the registers start, enabled or not, is continuous or no longer than its bus time.
     pub fn cpu_floor(self) -> u32
         ensures { λ r. ⌜ r ≡ cpuFloor (self .core) (total (self .clocks)) ⌝ }
     {

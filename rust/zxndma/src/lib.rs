@@ -337,12 +337,13 @@ impl Device {
     }
 
     /// A floor under the processor's time: among any so many clocks in a row,
-    /// from the next one on, at least one is the processor's, as long as no port
-    /// access and no speed call is accepted in between. How the clocks are cut
-    /// into grants does not matter, nor do refused calls and changes of memory. At
-    /// most 65. 0 is no claim: the device is not valid, or a slot that runs, or
-    /// the one that the registers start, enabled or not, is continuous or no
-    /// longer than its bus time.
+    /// the next one or a later one being the first, at least one is the
+    /// processor's, as long as up to the last of them no port access and no speed
+    /// call is accepted and the host does not change the device itself. How the
+    /// clocks are cut into grants does not matter, nor do refused calls and
+    /// changes of memory. At most 65. 0 is no claim: the device is not valid, or
+    /// the slot that runs, or the one that the registers start, enabled or not, is
+    /// continuous or no longer than its bus time.
     pub fn cpu_floor(self) -> u32 {
         // SAFETY: as for a write.
         unsafe { zxndma_cpu_floor(self) }
