@@ -41,6 +41,13 @@ pub fn failure(expect: &Expect, trace: &Trace, replies: &[Reply]) -> Option<Stri
             let counts = |[bus, held, cpu]: [u64; 3]| format!("{bus} {held} {cpu}");
             Some(format!("expected counts {}, found {}", counts(*expected), counts(found)))
         }
+        Expect::Floor(expected) => {
+            let found = trace.device().cpu_floor();
+            if found == *expected {
+                return None;
+            }
+            Some(format!("expected floor {expected}, found {found}"))
+        }
     }
 }
 

@@ -39,6 +39,8 @@ pub enum Expect {
     Memory { address: u16, bytes: Vec<u8> },
     /// The clock counts: bus, held, CPU.
     Counts([u64; 3]),
+    /// The floor under the processor's time; 0 for none.
+    Floor(u32),
 }
 
 /// A step of a session.

@@ -174,6 +174,9 @@ fn record_in_words(
     if !matches!(record, Record::Grant { .. }) {
         let answer = trace.step(record, &mut |_| ());
         row(out, number, &answer.reply, &answer_in_words(record, &answer))?;
+        if let Some(floor) = words::floor(&answer) {
+            writeln!(out, "{INDENT}{floor}")?;
+        }
         return Ok(answer);
     }
     let before = *trace.device();

@@ -98,6 +98,7 @@ fn check(out: &mut dyn Write, expect: &Expect) -> io::Result<()> {
             writeln!(out, "expect memory ${address:04X}: {}", bytes_listed(bytes))
         }
         Expect::Counts([bus, held, cpu]) => writeln!(out, "expect counts {bus} {held} {cpu}"),
+        Expect::Floor(floor) => writeln!(out, "expect floor {floor}"),
     }
 }
 

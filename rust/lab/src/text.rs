@@ -32,6 +32,7 @@ The text language:
   expect warning KIND      the last write's: operation, timing, mode or none
   expect memory ADDRESS: BYTE, ..
   expect counts BUS HELD CPU
+  expect floor NUMBER      the CPU has one of any so many clocks in a row; 0: no claim
   [LABEL] db BYTE, ..      bytes of a table, also \"TEXT\"
   [LABEL] dw WORD, ..      words of a table, low byte first
   NAME equ NUMBER          gives a number a name; NAME = NUMBER too
@@ -46,6 +47,8 @@ const MOST_READS: i64 = 65_536;
 const BYTE: (i64, i64) = (-128, 255);
 const WORD: (i64, i64) = (-32_768, 65_535);
 const ADDRESS: (i64, i64) = (0, 65_535);
+/// The floors that the library answers.
+const FLOOR: (i64, i64) = (0, 65);
 const MEMORY: usize = 65_536;
 
 /// What a `mem` line's file holds, by its name, or why it can't be read.
@@ -112,6 +115,7 @@ enum Statement {
     ExpectWarning(u8),
     ExpectMemory { address: Expression, table: Table },
     ExpectCounts([Expression; 3]),
+    ExpectFloor(Expression),
 }
 
 struct Reader<'a> {
@@ -369,7 +373,10 @@ fn expect(words: &mut Words) -> Result<Statement, Error> {
         let cpu = words.expression("CPU clocks")?;
         return Ok(Statement::ExpectCounts([bus, held, cpu]));
     }
-    Err(words.expected("'byte', 'refused', 'warning', 'memory' or 'counts'"))
+    if take_word(words, "floor") {
+        return Ok(Statement::ExpectFloor(words.expression("a floor")?));
+    }
+    Err(words.expected("'byte', 'refused', 'warning', 'memory', 'counts' or 'floor'"))
 }
 
 // ---- Making records ------------------------------------------------------
@@ -457,6 +464,10 @@ impl Writer {
                 }
                 self.item(place, Step::Expect(Expect::Counts(values)))?;
             }
+            Statement::ExpectFloor(floor) => {
+                let floor = self.number(&floor, FLOOR, "a floor")? as u32;
+                self.item(place, Step::Expect(Expect::Floor(floor)))?;
+            }
         }
         Ok(())
     }
@@ -529,7 +540,7 @@ mod tests {
 
     #[test]
     fn errors_name_their_place_and_what_was_expected() {
-        let cases: [(&str, u32, u32, &str); 30] = [
+        let cases: [(&str, u32, u32, &str); 33] = [
             ("run", 1, 4, "expected clocks or 'until done', found the end of the line"),
             ("run until dawn", 1, 11, "expected 'done', found 'dawn'"),
             ("run 4294967296", 1, 5, "expected a number up to 4294967295"),
@@ -558,7 +569,10 @@ mod tests {
             ("in $6B\nexpect warning none", 2, 1, "expected an out or otir above this line"),
             ("expect warning", 1, 15, "expected 'operation', 'timing', 'mode' or 'none', found the end of the line"),
             ("expect warning 2", 1, 16, "expected 'operation', 'timing', 'mode' or 'none', found the number 2"),
-            ("expect nothing", 1, 8, "expected 'byte', 'refused', 'warning', 'memory' or 'counts', found 'nothing'"),
+            ("expect floor", 1, 13, "expected a floor, found the end of the line"),
+            ("expect floor 66", 1, 14, "expected a floor from 0 to 65, found 66"),
+            ("expect floor none", 1, 14, "expected a number or a defined name, found 'none'"),
+            ("expect nothing", 1, 8, "expected 'byte', 'refused', 'warning', 'memory', 'counts' or 'floor', found 'nothing'"),
             ("run 1/0", 1, 5, "expected a sum whose value is a number up to 64 bits"),
         ];
         for (content, line, column, message) in cases {

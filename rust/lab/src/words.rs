@@ -383,6 +383,28 @@ pub fn transfer(core: &Core) -> String {
     text
 }
 
+/// The floor under the processor's time, if a write starts the device with one
+/// or changes that of a running device. A disabled one has no need of it: all
+/// clocks are the processor's.
+pub fn floor(answer: &Answer) -> Option<String> {
+    let Answer { before, after, .. } = answer;
+    if !after.core.enabled {
+        return None;
+    }
+    let was = if before.core.enabled { before.cpu_floor() } else { 0 };
+    match after.cpu_floor() {
+        is if is == was => None,
+        0 => Some(
+            "no CPU floor any more: the slots to come have no wait for the processor".to_string(),
+        ),
+        // Accesses may cut a wait short, by Disable, and start the next slot.
+        is => Some(format!(
+            "CPU floor {is}: of any {is} clocks in a row without a port access the processor has \
+             one at least"
+        )),
+    }
+}
+
 fn disabled(was: &Core) -> String {
     let dropped = if was.slot.elapsed > 0 { ": the rest of the wait is dropped" } else { "" };
     format!("Disable{dropped}")
@@ -509,6 +531,37 @@ mod tests {
             let told = self::told(&[byte]);
             assert!(told[0].starts_with(name), "{byte:02X}: {}", told[0]);
         }
+    }
+
+    /// At Enable, and at every write that changes it; of a disabled device, and
+    /// of one that starts without a floor, nothing.
+    #[test]
+    fn floors_are_told_as_they_change() {
+        let mut trace = Trace::brief();
+        let mut told = |record: Record| floor(&trace.step(&record, &mut |_| ()));
+        let mut written = |bytes: &[u8]| -> Vec<String> {
+            let write = |byte: &u8| told(Record::Write { port: 0x6B, byte: *byte });
+            let floors: Vec<String> = bytes.iter().filter_map(write).collect();
+            // Into the wait.
+            told(Record::Grant { clocks: 10 });
+            assert_eq!(told(Record::Read { port: 0x6B }), None);
+            floors
+        };
+        let is = |clocks: u32| {
+            let row = format!("CPU floor {clocks}: of any {clocks} clocks in a row without a port");
+            row + " access the processor has one at least"
+        };
+        let none = "no CPU floor any more: the slots to come have no wait for the processor";
+        let setup = [0x65, 9, 0, 0x54, 2, 0x50, 0x22, 1, 0xC1, 0xCF];
+        assert!(written(&setup).is_empty());
+        assert_eq!(written(&[0x87]), [is(5)]);
+        // Enabled already; the same timing, another prescaler; a shorter block.
+        assert!(written(&[0x87, 0x50, 0x22, 2, 0x65, 8, 0]).is_empty());
+        assert_eq!(written(&[0x50, 0x22, 0, 0x50, 0x22, 1]), [none.to_string(), is(5)]);
+        assert_eq!(written(&[0xA1, 0xC1, 0x54, 1]), [none.to_string(), is(5), is(6)]);
+        // Registers of a disabled device, and then Enable.
+        assert_eq!(written(&[0x83, 0xC7, 0x87]), [is(7)]);
+        assert!(written(&[0x83, 0xA1, 0x87]).is_empty());
     }
 
     /// 24 bytes select no register, and no other byte does so.

@@ -80,6 +80,9 @@ expect warning operation
 out PORT, $44, 3
 in PORT
 expect warning timing
+expect floor 0
+out PORT, $50, $22, 1, $C1
+Expect Floor 4 + 2 + 1
 ";
 
 #[test]

@@ -53,6 +53,27 @@ fn checks_of_warnings() {
     assert!(said(&refused).contains(shown), "{}", said(&refused));
 }
 
+/// The device's at that point, enabled or not.
+#[test]
+fn checks_of_floors() {
+    let setup = "otir $6B\ndb $65\ndw 2\ndb $54, 2, $50, $22, 1, $C1, $CF\n";
+    let good = format!("expect floor 0\n{setup}expect floor 5\nout $6B, $87\nexpect floor 2+2+1\n");
+    let lines = lab(&["run", "--lines", "-"], &good);
+    let accepted = "W 0\n".repeat(11) + "B 0 0 0\n";
+    assert_eq!((status(&lines), said(&lines)), (0, accepted));
+    let told = lab(&["run", "--no-advice", "-"], &good);
+    let row = "\n                 CPU floor 5: of any 5 clocks in a row without a port access";
+    assert_eq!((status(&told), said(&told).matches(row).count()), (0, 1), "{}", said(&told));
+    assert!(said(&told).ends_with("\nChecks: 3 held, 0 failed.\n"), "{}", said(&told));
+    let bad = lab(&["run", "-"], &format!("{setup}out $6B, $87\nexpect floor 6\n"));
+    assert_eq!(status(&bad), 1);
+    let shown = "FAILED -:6:1: expected floor 6, found 5\n 6 | expect floor 6\n   | ^\n";
+    assert!(said(&bad).contains(shown), "{}", said(&bad));
+    let none = lab(&["run", "-"], "expect floor 5\n");
+    assert_eq!(status(&none), 1);
+    assert!(said(&none).contains("FAILED -:1:1: expected floor 5, found 0\n"), "{}", said(&none));
+}
+
 #[test]
 fn discouraged_values_are_counted_at_the_end() {
     let one = said(&lab(&["run", "--no-advice", "-"], "out $6B, $A1, $E1, $A1\n"));
