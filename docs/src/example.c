@@ -1,7 +1,8 @@
 /* A program: embeds the zxnDMA in C, as an example to start from.
  *
  * It copies four bytes from 1000 to 2000 and reads the registers back; it writes a discouraged value, which has a warning;
- * then it copies the bytes at another speed. docs/src/example.rs does the same in Rust; docs/src/run-examples builds both. */
+ * it copies the bytes at another speed; then it asks how long the processor may have to wait. docs/src/example.rs does the
+ * same in Rust; docs/src/run-examples builds both. */
 #include <inttypes.h>
 #include <stdio.h>
 #include <stdlib.h>
@@ -12,9 +13,10 @@
 static const char help[] =
     "usage: example\n"
     "Copies four bytes by the zxnDMA and reads its registers back, writes a byte that\n"
-    "has a warning, then copies the four at 3.5 MHz: an example of a program with the\n"
-    "library target/staticlib/libhost.a linked in. It prints refusals, clock counts,\n"
-    "bytes, registers and the warning: example.out.\n"
+    "has a warning, copies the four at 3.5 MHz, then asks how long the processor may\n"
+    "have to wait: an example of a program with the library\n"
+    "target/staticlib/libhost.a linked in. It prints refusals, clock counts, bytes,\n"
+    "registers, the warning and the floors: example.out.\n"
     "Exit status: 0 done; 1 a call was refused that should not be; 2 bad arguments.\n";
 
 /* The DMA's port in zxn mode. */
@@ -38,6 +40,11 @@ static const uint8_t discouraged[] = {
 static const uint8_t again[] = {
     0xCF,                          /* Load */
     0x87,                          /* Enable */
+};
+
+static const uint8_t paced[] = {
+    0x50, 0x22, 0x03,              /* WR2: B is memory and increments, 2 clocks, prescaler 3 */
+    0xC1,                          /* WR4: burst */
 };
 
 static uint8_t memory[ZXNDMA_BUFFER_LENGTH];
@@ -151,6 +158,11 @@ static void run(void)
     accepted("set_speed", set.number);
     device = pass(send(set.device, again, sizeof again), 8 * 16);
     print_clocks("clocks, with the same at 3.5 MHz:", device.clocks);
+
+    /* Between the bytes of a burst with a prescaler the processor has clocks. An interrupt waits for one of them. */
+    printf("CPU floor, continuous: %" PRIu32 "\n", zxndma_cpu_floor(device));
+    device = send(device, paced, sizeof paced);
+    printf("CPU floor, burst: one of any %" PRIu32 " clocks\n", zxndma_cpu_floor(device));
     printf("valid: %s\n", zxndma_valid(device) ? "yes" : "no");
 }
 

@@ -1,9 +1,9 @@
 //! A program: embeds the zxnDMA in Rust, as an example to start from.
 //!
 //! It copies four bytes from 1000 to 2000 and reads the registers back; it writes
-//! a discouraged value, which has a warning; then it copies the bytes at another
-//! speed. docs/src/example.c does the same in C; docs/src/run-examples builds
-//! both.
+//! a discouraged value, which has a warning; it copies the bytes at another speed;
+//! then it asks how long the processor may have to wait. docs/src/example.c does
+//! the same in C; docs/src/run-examples builds both.
 
 #![deny(unsafe_code)]
 
@@ -16,9 +16,10 @@ use zxndma::{speed, warning, Clocks, Device, BUFFER_LENGTH};
 const HELP: &str = "\
 usage: example
 Copies four bytes by the zxnDMA and reads its registers back, writes a byte that
-has a warning, then copies the four at 3.5 MHz: an example of a program with the
-library target/staticlib/libhost.a linked in. It prints refusals, clock counts,
-bytes, registers and the warning: example.out.
+has a warning, copies the four at 3.5 MHz, then asks how long the processor may
+have to wait: an example of a program with the library
+target/staticlib/libhost.a linked in. It prints refusals, clock counts, bytes,
+registers, the warning and the floors: example.out.
 Exit status: 0 done; 1 a call was refused that should not be; 2 bad arguments.
 ";
 
@@ -43,6 +44,11 @@ const DISCOURAGED: [u8; 1] = [
 const AGAIN: [u8; 2] = [
     0xCF, // Load
     0x87, // Enable
+];
+
+const PACED: [u8; 4] = [
+    0x50, 0x22, 0x03, // WR2: B is memory and increments, 2 clocks, prescaler 3
+    0xC1, // WR4: burst
 ];
 
 /// This program expects no refusal.
@@ -142,5 +148,11 @@ fn run() {
     accepted("set_speed", set.number);
     device = pass(send(set.device, &AGAIN), &mut memory, &mut latches, 8 * 16);
     print_clocks("clocks, with the same at 3.5 MHz:", device.clocks);
+
+    // Between the bytes of a burst with a prescaler the processor has clocks. An
+    // interrupt waits for one of them.
+    println!("CPU floor, continuous: {}", device.cpu_floor());
+    device = send(device, &PACED);
+    println!("CPU floor, burst: one of any {} clocks", device.cpu_floor());
     println!("valid: {}", if device.is_valid() { "yes" } else { "no" });
 }

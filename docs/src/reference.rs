@@ -13,7 +13,7 @@
 use std::io::{Read, Write};
 use std::process::ExitCode;
 
-/// The device and its five calls.
+/// The device, its five calls and the floor under the processor's time.
 pub mod model {
     /// The bytes of memory, and of latches, that a grant must be lent.
     pub const SIZE: usize = 65_536;
@@ -329,6 +329,39 @@ pub mod model {
             bus_time(d)
         } else {
             fixed_time
+        }
+    }
+
+    /// The slot that the present registers would start, before its first clock.
+    fn next_slot(d: &Device) -> Slot {
+        Slot { elapsed: 0, bus: bus_time(d), length: slot_length(d), burst: d.burst }
+    }
+
+    // ---- A floor under the processor's time ------------------------------
+
+    impl Device {
+        /// Among so many clocks in a row at least one is a CPU clock, as long as
+        /// nothing but clocks comes to the device: one more than the largest bus
+        /// time of the slot that has clocks spent, if there is one, and of those
+        /// that the registers would start. 0, which claims nothing, where one of
+        /// these is continuous or no longer than its bus time, and for an
+        /// unsound state (02, the floor under the processor's time).
+        pub fn cpu_floor(&self) -> u32 {
+            if !valid(self) {
+                return 0;
+            }
+            // The registers would start one slot after the other, all alike;
+            // those of a disabled device would as well.
+            let started = next_slot(self);
+            let spent = Some(self.slot).filter(|slot| slot.elapsed > 0);
+            let mut largest = 0;
+            for slot in spent.into_iter().chain([started]) {
+                if !slot.burst || slot.length <= slot.bus {
+                    return 0;
+                }
+                largest = largest.max(u32::from(slot.bus));
+            }
+            largest + 1
         }
     }
 
@@ -690,9 +723,7 @@ pub mod model {
             );
             // A slot's first clock fixes the bus time, the length, and burst
             // or continuous.
-            d.slot.bus = bus_time(d);
-            d.slot.length = slot_length(d);
-            d.slot.burst = d.burst;
+            d.slot = next_slot(d);
         }
         d.slot.elapsed += 1;
         if d.slot.elapsed <= d.slot.bus {

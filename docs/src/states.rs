@@ -3,20 +3,25 @@
 //! On devices of any content, with any port, byte, clocks, buffers and speed
 //! code, on sessions, and on lists of calls from power on that set the speed as
 //! well. Every answer is compared whole: number, byte, warning, each field of the
-//! device, and after a grant both buffers, in a session after every record. The
+//! device, and after a grant both buffers, in a session after every record; and so
+//! is the floor under the processor's time, of each device before a call. The
 //! sessions of a seed are those that `compare.rs` makes of it. What the grants, the
 //! writes in burst waits and the speed calls came to is counted, and so are the
-//! warnings and the numbers of pending parameters that came. It also tries all
-//! 65,536 of these, every byte with those that are valid, reads by all masks from
-//! all positions, all codes of the speed and a slot's figures about all that are
-//! valid, and sees that the second program stops where a slot would begin with its
-//! block finished.
+//! floors, the warnings and the numbers of pending parameters that came. It also
+//! tries all 65,536 of these, every byte with those that are valid, reads by all
+//! masks from all positions, all codes of the speed, a slot's figures about all that
+//! are valid, and the floors of all registers that slots go by with any running
+//! slot, and sees that the second program stops where a slot would begin with its
+//! block finished. Floors are held against clocks that the second program takes
+//! singly, also in lists of grants with refused calls between them.
 //!
 //! Built by `rustc --edition 2021 -O -L native=target/staticlib states.rs`,
 //! from this folder or with its path; `states --help` says how it is run.
 
 #![deny(unsafe_code)]
 
+#[path = "floors.rs"]
+mod floors;
 #[path = "generate.rs"]
 mod generate;
 #[path = "grants.rs"]
@@ -42,6 +47,7 @@ mod warnings;
 #[path = "../../rust/zxndma/src/lib.rs"]
 mod zxndma;
 
+use floors::{Floors, Run};
 use generate::Rng;
 use grants::{Grant, Grants};
 use numbers::Numbers;
@@ -63,10 +69,11 @@ const HELP: &str = "\
 usage: states [--calls N] [--sessions N] [--lists N] [--seed N]... [FILE.hex]...
 Compares the linked library with the second program, for each seed (1) by N calls
 on made devices (1000000), N made sessions (5000) and N lists of calls from power
-on that set the speed as well (2000), and on the stored sessions. Prints how often
-each number was answered, what the grants, the writes in burst waits and the speed
-calls came to, which warnings and which bytes close to one came, and how many
-numbers of pending parameters.
+on that set the speed as well (2000), and on the stored sessions. Before each call
+both answer the device's floor under the processor's time. Prints how often each
+number was answered, what the grants, the writes in burst waits and the speed calls
+came to, which floors, which warnings and which bytes close to one came, and how
+many numbers of pending parameters.
 
 For each seed it tries, on devices that are valid otherwise:
 - all 65536 numbers of pending parameters: a call must answer 1 exactly where the
@@ -79,15 +86,24 @@ For each seed it tries, on devices that are valid otherwise:
 - each speed code in a device with each: the answer must be 1 where the device's
   is above 3, else 7 where the call's is, else 0;
 - bus times up to 70 with lengths up to 8300 in a running slot: as many as the
-  rules allow must be valid.
+  rules allow must be valid;
+- the floors of all speeds and cycles with prescalers 0 to 3 and 255, in burst and
+  continuous, with running slots of each bus time, and enabled and disabled without
+  one: of the latter as many as the rules allow must have a floor. The second
+  program takes clocks singly: with a floor, fewer than it in a row may pass without
+  a CPU clock; where slots leave the processor no clock, more than any floor must;
+- the same in 2000 lists of grants with refused calls and changes of memory between
+  them, from devices that have a floor. Such lists also branch off from those from
+  power on. The library gets the grants, and must come to the same devices.
 Sees, too, that the calls refuse a device whose slot would begin with the block
 finished, and that a clock of it stops the second program.
 
-Exit status: 0 no difference; 1 a difference, or the second program stops in a
-call or doesn't where it should, which is shown, or a number that a call can
-answer never came, or, with as many calls, sessions or lists as these, some case
-of a long grant, of a write in a wait, of a warning or of a speed call, or a number
-of pending parameters, or a FILE can't be read; 2 bad arguments.
+Exit status: 0 no difference; 1 a difference, or clocks don't keep to a floor, or
+the second program stops in a call or doesn't where it should, which is shown, or a
+number that a call can answer never came, or some case of the floors that are tried,
+or, with as many calls, sessions or lists as these, some case of a floor, of a long
+grant, of a write in a wait, of a warning or of a speed call, or a number of pending
+parameters, or a FILE can't be read; 2 bad arguments.
 ";
 
 // ---- Both sides ----------------------------------------------------------
@@ -356,6 +372,8 @@ struct Bench {
     numbers: Numbers,
     /// What the calls that set the speed came to.
     speeds: Speeds,
+    /// Of each device before a call, and of clocks that were taken singly.
+    floors: Floors,
 }
 
 impl Bench {
@@ -369,6 +387,7 @@ impl Bench {
             warnings: Warnings::of_sessions(),
             numbers: Numbers::new(),
             speeds: Speeds::of_lists(),
+            floors: Floors::of_sessions(),
         }
     }
 
@@ -386,6 +405,12 @@ impl Bench {
     fn fill(&mut self, rng: &mut Rng) {
         self.library.fill(rng);
         self.model.copy(&self.library);
+    }
+
+    /// Both sides lend these bytes.
+    fn lend(&mut self, bytes: &Buffers) {
+        self.library.copy(bytes);
+        self.model.copy(bytes);
     }
 
     fn store(&mut self, address: u16, bytes: &[u8]) {
@@ -413,13 +438,8 @@ impl Bench {
     /// As `call`, but for the buffers: these are not compared. Gives what both
     /// answer, and the library's device.
     fn answer(&mut self, device: Device, call: Call) -> Result<(Answer, Device), String> {
-        let (library, after) = by_library(device, call, &mut self.library);
-        let model = stops::caught(|| by_model(device, call, &mut self.model)).map_err(|text| {
-            format!("{:?}\nbefore: {:?}\nthe second program stops: {}", call, device, text)
-        })?;
-        if library != model {
-            return Err(self.difference(device, call, &library, &model));
-        }
+        self.floor(device)?;
+        let (model, after) = self.both(device, call)?;
         self.counts.of(call)[usize::from(model.number)] += 1;
         let before = model_of(device);
         if let Call::Write { port, byte } = call {
@@ -441,6 +461,57 @@ impl Bench {
             }
         }
         Ok((model, after))
+    }
+
+    /// As `answer`, but nothing is counted.
+    fn both(&mut self, device: Device, call: Call) -> Result<(Answer, Device), String> {
+        let (library, after) = by_library(device, call, &mut self.library);
+        let model = stops::caught(|| by_model(device, call, &mut self.model)).map_err(|text| {
+            format!("{:?}\nbefore: {:?}\nthe second program stops: {}", call, device, text)
+        })?;
+        if library != model {
+            return Err(self.difference(device, call, &library, &model));
+        }
+        Ok((model, after))
+    }
+
+    /// Has both sides answer a device's floor. Gives it, or the case if they
+    /// differ or answer what can be no floor of this device.
+    fn floor(&mut self, device: Device) -> Result<u32, String> {
+        let before = model_of(device);
+        let (library, model) = (device.cpu_floor(), before.cpu_floor());
+        let can_be = (floors::LEAST..=floors::GREATEST).contains(&model) && device.is_valid();
+        if library != model || (model != 0 && !can_be) {
+            let floors = format!("library: {}\nmodel:   {}", library, model);
+            return Err(format!("the floor of {:?}\n{}", device, floors));
+        }
+        self.floors.count(&before, model);
+        Ok(model)
+    }
+
+    /// The library gets a grant, and the second program takes its clocks singly.
+    /// Gives the device afterwards, or the case if they differ.
+    fn grant_singly(
+        &mut self,
+        run: &mut Run,
+        device: Device,
+        clocks: u32,
+    ) -> Result<Device, String> {
+        let grant = Call::Grant { memory: SIZE, latches: SIZE, clocks };
+        let (library, after) = by_library(device, grant, &mut self.library);
+        self.take(run, clocks)?;
+        if library.number != 0 || library.device != *run.device() {
+            let case = format!("{:?}, its clocks taken singly\nbefore:  {:?}", grant, device);
+            return Err(format!("{}\nlibrary: {:?}\nmodel:   {:?}", case, library, run.device()));
+        }
+        Ok(after)
+    }
+
+    /// The second program alone takes clocks singly.
+    fn take(&mut self, run: &mut Run, clocks: u32) -> Result<(), String> {
+        let Buffers { memory, latches } = &mut self.model;
+        stops::caught(|| run.take(memory, latches, clocks))
+            .map_err(|text| format!("{:?}\nthe second program stops: {}", run.device(), text))
     }
 
     fn difference(&self, device: Device, call: Call, library: &Answer, model: &Answer) -> String {
@@ -616,6 +687,11 @@ const NO_SLOT: Slot = Slot { elapsed: 0, bus: 0, length: 0, burst: false };
 fn running_slot(rng: &mut Rng) -> Slot {
     let any = rng.between(4, 64) as u16;
     let bus = rng.pick(&[4, 4, 5, 6, 7, 8, 9, 31, 32, 33, 63, 64, any, any]);
+    slot_of(rng, bus)
+}
+
+/// With this bus time, and a length that goes with it.
+fn slot_of(rng: &mut Rng, bus: u16) -> Slot {
     let any = rng.between(1, 255) as u16;
     // The first multiple of 32 that is not below it.
     let least = if bus > 32 { 2 } else { 1 };
@@ -824,6 +900,12 @@ fn made_port(rng: &mut Rng) -> u16 {
     }
 }
 
+/// A bit away from one of the DMA's two ports. No bit makes one of them the
+/// other.
+fn not_a_port(rng: &mut Rng, port: u16) -> u16 {
+    port ^ (1 << rng.below(8))
+}
+
 /// Half of them commands.
 fn made_byte(rng: &mut Rng) -> u8 {
     const COMMANDS: [u8; 14] =
@@ -863,6 +945,11 @@ fn made_clocks(rng: &mut Rng, device: Device, room: u128) -> u32 {
     }
 }
 
+/// The clocks that the clock counts of a valid device have room for.
+fn room(device: &model::Device) -> u128 {
+    u128::from(u64::MAX) - model::books_sum(device)
+}
+
 fn made_grant(rng: &mut Rng, device: Device) -> Call {
     let (memory, latches) = (made_length(rng), made_length(rng));
     let before = model_of(device);
@@ -870,7 +957,7 @@ fn made_grant(rng: &mut Rng, device: Device) -> Call {
         let any = rng.next() as u32;
         rng.pick(&[0, 1, 16, u32::MAX, any])
     } else {
-        made_clocks(rng, device, u128::from(u64::MAX) - model::books_sum(&before))
+        made_clocks(rng, device, room(&before))
     };
     Call::Grant { memory, latches, clocks }
 }
@@ -1124,6 +1211,8 @@ fn stored_session(bench: &mut Bench, path: &str) -> Result<(), String> {
 const RECORDS_OF_A_LIST: usize = 2_000;
 /// The second program takes every clock.
 const CLOCKS_OF_A_GRANT: u32 = 500_000;
+/// A branch takes longer than a record: one for so many that leave a floor.
+const RECORDS_OF_A_BRANCH: u32 = 8;
 
 /// A session's grant is about the ends of slots at 28 MHz. At another speed the
 /// slots without a prescaler take as many times longer; so does the grant, most
@@ -1141,8 +1230,14 @@ fn slowed(rng: &mut Rng, device: Device, call: Call) -> Call {
 }
 
 /// Runs a session's records, with speed calls strewn between them: from one for
-/// each record to few in the whole list.
-fn run_list(bench: &mut Bench, rng: &mut Rng, session: &[u8]) -> Result<(), String> {
+/// each record to few in the whole list. Where the device has a floor, a list
+/// that keeps it may branch off, by random numbers of its own.
+fn run_list(
+    bench: &mut Bench,
+    rng: &mut Rng,
+    branches: &mut Rng,
+    session: &[u8],
+) -> Result<(), String> {
     bench.clear();
     let (_, mut device) = bench.call(Device::power_on(), Call::PowerOn)?;
     let seldom = rng.pick(&[2, 5, 20, 100]);
@@ -1155,6 +1250,11 @@ fn run_list(bench: &mut Bench, rng: &mut Rng, session: &[u8]) -> Result<(), Stri
             Record::Memory { address, bytes } => bench.store(address, bytes),
         }
         bench.same_buffers()?;
+        if branches.chance(1, RECORDS_OF_A_BRANCH) && device.cpu_floor() > 0 {
+            let lent = bench.library.clone();
+            run_under_floor(bench, branches, device)?;
+            bench.lend(&lent);
+        }
     }
     Ok(())
 }
@@ -1163,11 +1263,119 @@ fn run_list(bench: &mut Bench, rng: &mut Rng, session: &[u8]) -> Result<(), Stri
 fn made_lists(bench: &mut Bench, seed: u64, lists: u64) -> Result<(), String> {
     for number in 1..=lists {
         let mut rng = Rng::numbered(!seed, number);
+        let mut branches = Rng::numbered(!seed, !number);
         let session = generate::session(&mut rng);
         let place = |case| format!("seed {}, list {}: {}", seed, number, case);
-        run_list(bench, &mut rng, &session).map_err(place)?;
+        run_list(bench, &mut rng, &mut branches, &session).map_err(place)?;
     }
     Ok(())
+}
+
+// ---- Lists that keep a floor ---------------------------------------------
+
+/// A device that has a floor: disabled, about to begin a slot or in one. Often
+/// the registers' bus time is the shortest or the longest that there can be.
+fn device_with_floor(rng: &mut Rng) -> Device {
+    loop {
+        let make = rng.pick(&[valid_device, busy_device, endless_device, waiting_device]);
+        let mut device = make(rng);
+        let core = &mut device.core;
+        core.control.burst = true;
+        if rng.chance(1, 3) {
+            let (speed, cycle) = rng.pick(&[(3, 2), (0, 4)]);
+            (core.control.speed, core.a.cycle, core.b.cycle) = (speed, cycle, cycle);
+        }
+        if model_of(device).cpu_floor() > 0 {
+            return device;
+        }
+    }
+}
+
+/// A call that this valid device refuses: by a port that is not the DMA's or
+/// while the bus is held, with a speed code that there is not, or with buffers
+/// that are too short or too long.
+fn refused_call(rng: &mut Rng, device: &model::Device) -> Call {
+    let own_port = rng.pick(&[0x6B, 0x0B]);
+    let held = model::holds_bus(device) && rng.chance(1, 2);
+    let port = if held { own_port } else { not_a_port(rng, own_port) };
+    match rng.below(4) {
+        0 => Call::Write { port, byte: made_byte(rng) },
+        1 => Call::Read { port },
+        2 => Call::SetSpeed { code: any_code(rng).max(4) },
+        _ => {
+            let length = rng.pick(&[0, 1, SIZE - 1, SIZE + 1, LONGEST]);
+            let (memory, latches) = rng.pick(&[(length, SIZE), (SIZE, length), (length, length)]);
+            Call::Grant { memory, latches, clocks: rng.next() as u32 }
+        }
+    }
+}
+
+/// Clocks for a grant under a floor: few, about the floor, or up to some slots.
+fn clocks_under_floor(rng: &mut Rng, device: &model::Device, floor: u32) -> u32 {
+    let few = rng.between(2, 8);
+    let many = rng.below(3 * u32::from(model::slot_length(device)));
+    rng.pick(&[0, 1, 1, few, few, few, floor - 1, floor, many])
+}
+
+/// A call that must be refused and change nothing.
+fn refuse(bench: &mut Bench, run: &Run, device: Device, call: Call) -> Result<(), String> {
+    let (answer, after) = bench.both(device, call)?;
+    if answer.number == 0 || after != device {
+        return Err(format!("{:?} of {:?} gives {:?}", call, device, answer));
+    }
+    bench.floors.count_entry(run, call.about_speed(), answer.number);
+    Ok(())
+}
+
+/// Grants to a device that has a floor, with refused calls and outside changes of
+/// memory between them. In all their clocks together there must be no stretch as
+/// long as the floor, and the device must keep a floor that is no greater.
+fn run_under_floor(bench: &mut Bench, rng: &mut Rng, start: Device) -> Result<(), String> {
+    let mut device = start;
+    let floor = bench.floor(start)?;
+    let mut run = Run::of(model_of(start), floor);
+    for _ in 0..rng.between(10, 50) {
+        let clocks = clocks_under_floor(rng, run.device(), floor);
+        let grant = Call::Grant { memory: SIZE, latches: SIZE, clocks };
+        match rng.below(10) {
+            0 => {
+                let (address, count) = (rng.word(), rng.between(1, 255));
+                bench.floors.count_entry(&run, None, 0);
+                bench.store(address, &rng.bytes(count));
+            }
+            1..=3 => refuse(bench, &run, device, refused_call(rng, run.device()))?,
+            _ if room(run.device()) < u128::from(clocks) => refuse(bench, &run, device, grant)?,
+            _ => {
+                bench.floors.count_entry(&run, grant.about_speed(), 0);
+                device = bench.grant_singly(&mut run, device, clocks)?;
+                run.keeps_floor()?;
+                let later = bench.floor(device)?;
+                if later == 0 || later > floor {
+                    return Err(format!("floor {} of {:?}, then {}", floor, start, later));
+                }
+            }
+        }
+    }
+    bench.floors.count_run(&run);
+    bench.same_buffers()
+}
+
+const LISTS_UNDER_FLOOR: u32 = 2_000;
+
+/// Such lists from devices of any valid content.
+fn lists_under_floor(bench: &mut Bench, seed: u64) -> Result<(), String> {
+    let mut rng = Rng::new(seed);
+    bench.floors = Floors::of_made();
+    for number in 0..LISTS_UNDER_FLOOR {
+        if number % 100 == 0 {
+            bench.fill(&mut rng);
+        }
+        let device = device_with_floor(&mut rng);
+        let place = |case| format!("seed {}, list under a floor {}: {}", seed, number, case);
+        run_under_floor(bench, &mut rng, device).map_err(place)?;
+    }
+    println!("states: seed {}: {} lists under a floor", seed, LISTS_UNDER_FLOOR);
+    floors_counted(&format!("seed {} in lists", seed), bench, true)
 }
 
 // ---- Every number of pending parameters ----------------------------------
@@ -1336,9 +1544,7 @@ fn refused_writes(
     let mut holding = device;
     holding.core.enabled = true;
     leave_bytes(&mut holding.core);
-    // No bit makes one of the two ports the other.
-    let other_port = port ^ (1 << rng.below(8));
-    let cases = [(1, invalid, port), (2, device, other_port), (3, holding, port)];
+    let cases = [(1, invalid, port), (2, device, not_a_port(rng, port)), (3, holding, port)];
     for (number, device, port) in cases {
         let call = Call::Write { port, byte };
         let (answer, after) = bench.answer(device, call)?;
@@ -1440,6 +1646,154 @@ fn every_slot(bench: &mut Bench, seed: u64) -> Result<(), String> {
     }
     println!("states: seed {}: {} slots, {} of them valid", seed, tried, valid);
     Ok(())
+}
+
+// ---- Every floor ---------------------------------------------------------
+
+/// What the slots to come go by.
+#[derive(Clone, Copy, Debug)]
+struct Registers {
+    speed: u8,
+    cycles: [u8; 2],
+    prescaler: u8,
+    burst: bool,
+}
+
+/// All speeds and cycles; off, the prescalers up to the first whose slots are
+/// longer than any bus time, and the greatest; burst and continuous.
+fn every_registers() -> Vec<Registers> {
+    let mut every = Vec::new();
+    for cycles in [2, 3, 4].into_iter().flat_map(|a| [[a, 2], [a, 3], [a, 4]]) {
+        for speed in 0..=3 {
+            for prescaler in [0, 1, 2, 3, 255] {
+                let with = |burst| Registers { speed, cycles, prescaler, burst };
+                every.extend([true, false].map(with));
+            }
+        }
+    }
+    every
+}
+
+/// How many of them have a floor, by the prescaler. At each speed the cycles make
+/// 9 bus times, which have to be below 32, 64, 96 and 8,160: at 28 and 14 MHz all
+/// are below 32; at 7 MHz one of them is 32; at 3.5 MHz all are from 32 to 64, and
+/// one of them is 64.
+const REGISTERS_WITH_FLOOR: u32 = (9 + 9 + 8) + (9 + 9 + 9 + 8) + 4 * 9 + 4 * 9;
+
+/// The bytes of a block, and whether it starts again. All but the last one end
+/// within the clocks that are taken.
+const BLOCKS: [(u32, bool); 5] = [(1, false), (1, true), (2, false), (2, true), (1_000, true)];
+
+/// Valid, with these registers, this running slot or none, and this block,
+/// begun not long ago. The clock counts have room.
+fn device_with(
+    rng: &mut Rng,
+    registers: Registers,
+    enabled: bool,
+    slot: Slot,
+    (count, restart): (u32, bool),
+) -> Device {
+    let mut device = valid_device(rng);
+    let core = &mut device.core;
+    let Registers { speed, cycles, prescaler, burst } = registers;
+    core.control = Control { speed, prescaler, burst, restart, ..core.control };
+    [core.a.cycle, core.b.cycle] = cycles;
+    (core.enabled, core.slot) = (enabled, slot);
+    let zilog = rng.chance(1, 2);
+    let moved = slot.elapsed > 0 && slot.elapsed >= slot.bus;
+    let counter = rng.below(count.min(3)) + u32::from(moved);
+    core.block = Block { length: (count - u32::from(zilog)) as u16, counter, zilog };
+    let sum = rng.pick(&[0, 1 << 32, 1 << 63]);
+    device.clocks = clocks_of(rng, sum);
+    device
+}
+
+/// A running slot of this bus time at each place that matters, burst and
+/// continuous.
+fn slots_of(rng: &mut Rng, bus: u16) -> Vec<Slot> {
+    let mut slots = Vec::new();
+    for place in 0..4 {
+        for burst in [true, false] {
+            let Slot { length, .. } = slot_of(rng, bus);
+            let elapsed = [1, bus - 1, bus, length - 1][place].min(length - 1);
+            slots.push(Slot { elapsed, bus, length, burst });
+        }
+    }
+    slots
+}
+
+/// With one field changed, so that it is not valid any more.
+fn spoiled(rng: &mut Rng, device: Device) -> Device {
+    loop {
+        let mut spoiled = device;
+        let field = rng.below(FIELDS);
+        set_field(rng, &mut spoiled, field);
+        if !model::valid(&model_of(spoiled)) {
+            return spoiled;
+        }
+    }
+}
+
+/// Has both sides answer the floor of a valid device, and the second program take
+/// the clocks of the running slot and some more. Gives the floor.
+fn try_floor(bench: &mut Bench, rng: &mut Rng, device: Device) -> Result<u32, String> {
+    let floor = bench.floor(device)?;
+    let start = model_of(device);
+    if !model::valid(&start) {
+        return Err(format!("not valid: {:?}", device));
+    }
+    let running = u32::from(start.slot.length - start.slot.elapsed);
+    let mut run = Run::of(start, floor);
+    if floor > 0 {
+        bench.take(&mut run, running + 3 * u32::from(model::slot_length(&start)))?;
+        run.keeps_floor()?;
+        // That it is valid is needed as well.
+        bench.floor(spoiled(rng, device))?;
+    } else {
+        bench.take(&mut run, running + floors::GREATEST + 1)?;
+        if floors::takes_every_clock(&start) && run.longest() <= floors::GREATEST {
+            let longest = run.longest();
+            return Err(format!("at most {} clocks without a CPU clock: {:?}", longest, device));
+        }
+    }
+    bench.floors.count_run(&run);
+    Ok(floor)
+}
+
+/// Tries the floors of devices with all these registers: with each block,
+/// disabled and enabled, and with running slots of each bus time.
+fn every_floor(bench: &mut Bench, seed: u64) -> Result<(), String> {
+    let mut rng = Rng::new(seed);
+    let (mut tried, mut with_floor) = (0, 0);
+    bench.floors = Floors::of_each();
+    bench.fill(&mut rng);
+    for registers in every_registers() {
+        let place = |case| format!("seed {}, {:?}: {}", seed, registers, case);
+        for block in BLOCKS {
+            for enabled in [false, true] {
+                let device = device_with(&mut rng, registers, enabled, NO_SLOT, block);
+                let floor = try_floor(bench, &mut rng, device).map_err(place)?;
+                tried += 1;
+                with_floor += u32::from(floor > 0);
+            }
+        }
+        for bus in 4..=64 {
+            for slot in slots_of(&mut rng, bus) {
+                let block = rng.pick(&BLOCKS);
+                let device = device_with(&mut rng, registers, true, slot, block);
+                try_floor(bench, &mut rng, device).map_err(place)?;
+            }
+        }
+    }
+    let expected = 2 * BLOCKS.len() as u32 * REGISTERS_WITH_FLOOR;
+    if with_floor != expected {
+        return Err(format!("seed {}: {} floors, and not {}", seed, with_floor, expected));
+    }
+    println!(
+        "states: seed {}: {} devices without a running slot, {} of them with a floor",
+        seed, tried, with_floor
+    );
+    floors_counted(&format!("seed {}", seed), bench, true)
 }
 
 // ---- A slot that would begin with its block finished ---------------------
@@ -1565,6 +1919,12 @@ fn speeds_counted(of: &str, bench: &Bench, enough: bool) -> Result<(), String> {
     none_missing("speed", of, bench.speeds.missing(), enough)
 }
 
+/// The same of the floors.
+fn floors_counted(of: &str, bench: &Bench, enough: bool) -> Result<(), String> {
+    println!("{}", bench.floors.summary(&format!("states: floors of {}", of)));
+    none_missing("floor", of, bench.floors.missing(), enough)
+}
+
 fn none_missing(what: &str, of: &str, missing: Option<String>, enough: bool) -> Result<(), String> {
     match missing {
         Some(missing) if enough => Err(format!("no {} of {}: {}", what, of, missing)),
@@ -1585,27 +1945,35 @@ fn compare(options: &Options) -> Result<String, String> {
         every_code(&mut bench, seed)?;
         every_slot(&mut bench, seed)?;
         finished_devices(&mut bench, seed)?;
+        every_floor(&mut bench, seed)?;
+        lists_under_floor(&mut bench, seed)?;
     }
     bench.count_anew(Grants::of_devices(), Warnings::of_devices(), Speeds::of_devices());
+    bench.floors = Floors::of_devices();
     for &seed in seeds {
         println!("states: seed {}: {} calls", seed, calls);
         made_calls(&mut bench, seed, *calls)?;
     }
     counted("devices", &bench, *calls >= CALLS)?;
     speeds_counted("devices", &bench, *calls >= CALLS)?;
+    floors_counted("devices", &bench, *calls >= CALLS)?;
     bench.count_anew(Grants::of_sessions(), Warnings::of_sessions(), Speeds::of_lists());
+    bench.floors = Floors::of_lists();
     for &seed in seeds {
         println!("states: seed {}: {} lists of calls that set the speed", seed, lists);
         made_lists(&mut bench, seed, *lists)?;
     }
     speeds_counted("lists", &bench, *lists >= LISTS)?;
+    floors_counted("lists", &bench, *lists >= LISTS)?;
     // Without the stored ones: what is made has to come to everything alone.
     bench.count_anew(Grants::of_sessions(), Warnings::of_sessions(), Speeds::of_lists());
+    bench.floors = Floors::of_sessions();
     for &seed in seeds {
         println!("states: seed {}: {} sessions", seed, sessions);
         made_sessions(&mut bench, seed, *sessions)?;
     }
     counted("sessions", &bench, *sessions >= SESSIONS)?;
+    floors_counted("sessions", &bench, *sessions >= SESSIONS)?;
     bench.counts.summary()
 }
 
