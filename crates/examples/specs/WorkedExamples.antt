@@ -1697,6 +1697,19 @@ table =
     ∷ clocks 1
     ∷ counts 192 0 65
     ∷ [])
+    -- a sample player at 16 kHz, memory to I/O, 1,760 clocks a byte: its floor at each speed, and none in continuous
+    ∷ row "floor of a sample player"
+    (send 0x6B (0x83 ∷ 0x7D ∷ 0x00 ∷ 0x10 ∷ 0x00 ∷ 0x01 ∷ 0x54 ∷ 0x02 ∷ 0x68 ∷ 0x22 ∷ 0x37 ∷ 0xCD ∷ 0xDF ∷ 0x00 ∷ 0x82 ∷ 0xCF ∷ [])
+    ∷ floor 5
+    ∷ speed 2
+    ∷ floor 9
+    ∷ speed 1
+    ∷ floor 17
+    ∷ speed 0
+    ∷ floor 33
+    ∷ send 0x6B (0xA1 ∷ [])
+    ∷ floor 0
+    ∷ [])
     ∷ []
 
 -- every action of every row is answered and seen as the table says

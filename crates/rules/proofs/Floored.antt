@@ -2,39 +2,37 @@
 -- clocks makes it one less, and with none left the clock is the processor's. It is never more than the largest bus time, since
 -- clocks leave the registers. Over a list, what was noted since the processor's last clock and what is left are together no more.
 -- Assumes nothing.
-use Prim.Native.Nat.{ℕ, zero, suc, _+_, _-_, _*_, _≤_, _<_}
+use Prim.Native.Nat.{ℕ, zero, suc, _+_, _-_, _≤_, _<_}
 use native.Mathlib.Omega.{arith}
 use native.Mathlib.Nat.{add-zero, zero-add, add-suc, suc-add, add-assoc, le-of-lt, le-refl, le-trans}
 use mathlib.Core.Path.{_≡_, refl, sym, _∙_, ap, subst}
 use mathlib.Core.Bool.{Bool, true, false}
 use mathlib.Core.List.{List, [], _∷_, _++_}
 use mathlib.Core.Option.{none}
-use lib.Dec.{leb, ltb, eqb}
+use lib.Dec.{ltb, eqb}
 use lib.ListN.{length}
-use borrow.Author.Tests.{ltb-true, ltb-false, eqb-true, eqb-false, lt-ltb, le-leb, lt-leb, eq-eqb, ne-eqb}
-use Rattle.rules.specs.Choice.{pick, every}
+use borrow.Author.Tests.{ltb-true, ltb-false, eqb-true, eqb-false, lt-ltb, le-leb, lt-leb}
+use Rattle.rules.specs.Choice.{pick}
 use Rattle.rules.specs.Speed.{atSpeed}
 use Rattle.rules.specs.Slots.{busTimeOf, larger, slotLength, newSlot, slotOf}
 use Rattle.rules.specs.Validity.{validCore, valid, total}
 use Rattle.rules.specs.Facts.{ValidSlot, resting, running}
 use Rattle.rules.specs.Readback.{readByte}
 use Rattle.rules.specs.Clock.{Kind, busClock, heldClock, cpuClock, counted, Clock, clock, moved, withElapsed, movesAt, movedAt, kindAt, ending, slotEnd, clockEnd, slotClock, begun, clockOf}
-use Rattle.rules.specs.Buffers.{Store, Buffers}
+use Rattle.rules.specs.Buffers.{Store}
 use Rattle.rules.specs.World.{World, System, note, stepCounted, clocked}
-use Rattle.rules.specs.Calls.{Answered}
-use Rattle.rules.specs.Entries.{Outside, Entry, portWrite, portRead, speedCall, clockGrant, otherGrant, outsideChange, enter, run, systemAtPowerOn, runOver}
+use Rattle.rules.specs.Entries.{Outside, Entry, portWrite, portRead, speedCall, clockGrant, otherGrant, outsideChange, enter, run, runOver}
 use Rattle.rules.specs.History.{Event, clockNoted, counterZeroed, Past, withCore, writePassed, clockPassed, clocksPassed, grantPassed, changePassed, notedUnless, noteEntry, history, pastAtPowerOn, clocksPassedBy, historyBy}
 use Rattle.rules.specs.Accounts.{ofKind, clocksNoted, clocksAsked, clocksAccepted, numbersOf}
 use Rattle.rules.specs.Floor.{shared, allShared, floorOf, cpuFloor}
 use Rattle.rules.specs.Floored.{Shared, AllShared, OneOf, ofRegisters, ofRunning, OneMore, FloorExact, kindAfter, CpuAmong, floorAt, FloorHolds, MayPass, Undisturbed, OnlyClocks, CpuNoted, endOf, answersBehind, FloorBehind, FloorHoldsInLists, FloorNearest, threeOfCpu, eightOnBus, FloorWorked}
 use Rattle.rules.specs.Opened.{opened}
-use Rattle.rules.specs.declared.Control.{Control}
 use Rattle.rules.specs.declared.Slot.{Slot}
 use Rattle.rules.specs.declared.Clocks.{Clocks}
 use Rattle.rules.specs.declared.Core.{Core}
 use Rattle.rules.proofs.Choice.{pick-true, pick-false, pick-cases, pick-both, both-picked, either, all-true, true-all}
-use Rattle.rules.proofs.Speed.{bus-range}
-use Rattle.rules.proofs.Validity.{core-parts, port-cycle, slot-facts}
+use Rattle.rules.proofs.Speed.{BusTime}
+use Rattle.rules.proofs.Validity.{core-parts, slot-facts, valid-bus}
 use Rattle.rules.proofs.Slots.{slot-begins, slot-runs}
 use Rattle.rules.proofs.Framing.{clock-timed}
 use Rattle.rules.proofs.World.{clocked-zero, clocked-suc, clocked-add, clocked-keeps}
@@ -110,6 +108,10 @@ bound c =
           (slot-cases (λ (s : Slot). OneOf c (s .bus + 1)) c (ofRegisters refl) (λ n. ofRunning n refl));
     }
 
+floor-larger : (c : Core) → larger (newSlot c .bus) (slotOf c .bus) + 1 ≡ floorOf c
+unfolding floorOf
+floor-larger c = refl
+
 -- ---- the answer
 
 answered : (c : Core) (sum : ℕ) → valid c sum ≡ true → AllShared c → cpuFloor c sum ≡ floorOf c
@@ -131,26 +133,14 @@ unfolding cpuFloor
 floor-cases P c sum z f =
     pick-cases P (valid c sum) _ _ (λ v. pick-cases P (allShared c) _ _ (λ e. f v (meets c e)) (λ e. z)) (λ v. z)
 
--- a bus time of a valid core
-record BusRange (n : ℕ) : Type 0 where
-  least : 4 ≤ n
-  most : n ≤ 64
-
-new-range : (c : Core) → validCore c ≡ true → BusRange (newSlot c .bus)
-new-range c v =
-    let p = core-parts c v in
-    let a = port-cycle _ (p .a) in
-    let b = port-cycle _ (p .b) in
-    let r = bus-range (c .control .speed) _ _ (a .least) (a .most) (b .least) (b .most) in
-    record { least = r .least; most = r .most }
-
-running-range : (t : Bool) (s : Slot) → ValidSlot t s → (s .elapsed ≡ 0 → ⊥) → BusRange (s .bus)
+-- the bus time of the slot that runs or begins
+running-range : (t : Bool) (s : Slot) → ValidSlot t s → (s .elapsed ≡ 0 → ⊥) → BusTime (s .bus)
 running-range t s (resting r) n = absurd (n (r .elapsed))
 running-range t s (running on r) n = record { least = r .least; most = r .most }
 
-slot-range : (c : Core) → validCore c ≡ true → BusRange (slotOf c .bus)
+slot-range : (c : Core) → validCore c ≡ true → BusTime (slotOf c .bus)
 slot-range c v =
-    slot-cases (λ (s : Slot). BusRange (s .bus)) c (new-range c v)
+    slot-cases (λ (s : Slot). BusTime (s .bus)) c (valid-bus c v)
     (running-range (c .enabled) (c .slot) (slot-facts _ _ (core-parts c v .slot)))
 
 record FloorRange (n : ℕ) : Type 0 where
@@ -161,7 +151,7 @@ floor-range : (c : Core) → validCore c ≡ true → FloorRange (floorOf c)
 unfolding floorOf
 floor-range c v =
     larger-cases (λ n. FloorRange (n + 1)) (newSlot c .bus) (slotOf c .bus)
-    (let r = new-range c v in record { least = omega (arith, r .least); most = omega (arith, r .most) })
+    (let r = valid-bus c v in record { least = omega (arith, r .least); most = omega (arith, r .most) })
     (let r = slot-range c v in record { least = omega (arith, r .least); most = omega (arith, r .most) })
 
 pub floor-exact : FloorExact
@@ -205,6 +195,15 @@ all-within c f =
             bus = subst (λ (s : Slot). s .bus ≤ larger (newSlot c .bus) (slotOf c .bus)) (slot-runs c n) (larger-right (newSlot c .bus) (slotOf c .bus));
           };
     }
+
+-- so they are shared, and the bound is this one at most
+within-shared : (most : ℕ) (c : Core) → AllWithin most c → AllShared c × (floorOf c ≤ most + 1)
+unfolding floorOf
+within-shared most c w = (
+  record { registers = w .registers .facts; running = λ n. w .running n .facts },
+  larger-cases (λ n. n + 1 ≤ most + 1) (newSlot c .bus) (slotOf c .bus) (let h = w .registers .bus in omega (arith, h))
+      (let h = of-slot most c w .bus in omega (arith, h)),
+)
 
 -- a clock leaves the registers, and the figures of the slot that runs or begins
 clock-within : (most : ℕ) (c : Core) → AllWithin most c → AllWithin most (clockOf c .next)
@@ -314,11 +313,15 @@ module _ {M : Type 0} (σ : Store M) where
       ap (λ (t : System M). clockOf (t .world .core) .kind) (clocked-one n s)
       ∙ on-bus most n k (stepCounted σ s) (clock-within most _ w) (h .1)
 
+  -- what holds of the slots to come holds after any clocks
+  clocked-within : (most n : ℕ) (s : System M) → AllWithin most (s .world .core) → AllWithin most (clocked σ n s .world .core)
+  clocked-within most = clocked-keeps σ (λ (t : System M). AllWithin most (t .world .core)) (λ t v. clock-within most _ v)
+
   -- any clocks in a row
   among : (most : ℕ) (s : System M) (before : ℕ) → AllWithin most (s .world .core) → CpuAmong σ s before (most + 1)
   among most s before w =
       let t = clocked σ before s in
-      let v = clocked-keeps σ (λ (t : System M). AllWithin most (t .world .core)) (λ t v. clock-within most _ v) before s w in
+      let v = clocked-within most before s w in
       record {
         offset = left (t .world .core);
         within = let l = left-most most _ v in omega (arith, l);
@@ -326,6 +329,11 @@ module _ {M : Type 0} (σ : Store M) where
             ap (λ (u : System M). clockOf (u .world .core) .kind) (clocked-add σ before (left (t .world .core)) s)
             ∙ after-left most (left (t .world .core)) t v refl;
       }
+
+  kept : (s : System M) (n : ℕ) → AllShared (s .world .core) → AllShared (clocked σ n s .world .core) × (floorOf (clocked σ n s .world .core) ≤ floorOf (s .world .core))
+  kept s n f =
+      subst (λ k. AllShared (clocked σ n s .world .core) × (floorOf (clocked σ n s .world .core) ≤ k)) (floor-larger (s .world .core))
+      (within-shared _ _ (clocked-within _ n s (all-within (s .world .core) f)))
 
   unchecked : (s : System M) (before : ℕ) → AllShared (s .world .core) → CpuAmong σ s before (floorOf (s .world .core))
   unfolding floorOf
@@ -385,6 +393,7 @@ floor-holds =
           record { offset = a .offset; within = (let l = a .within in omega (arith, l, h)); kind = a .kind };
       counts = λ σ s before n z h. among-counts σ s before (floorAt s) n (floor-clocks σ s before z) h;
       unchecked = unchecked;
+      kept = kept;
       tight = tight;
     }
 
@@ -589,6 +598,10 @@ floor-nearest =
       running = refl;
       rest = refl;
       no-wait = record { valid = refl; floor = refl; many = omega arith; none = refl };
+      behind = refl;
+      next = refl;
+      no-wait-behind = refl;
+      next-ones = refl;
     }
 
 -- refusals

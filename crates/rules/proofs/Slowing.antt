@@ -24,8 +24,7 @@ use Rattle.rules.specs.declared.Slot.{Slot}
 use Rattle.rules.specs.declared.Clocks.{Clocks}
 use Rattle.rules.specs.declared.Core.{Core}
 use Rattle.rules.proofs.Choice.{pick-true, pick-false, pick-cases, pick-both, both-picked, any-first, any-more, either, not-of-false}
-use Rattle.rules.proofs.Speed.{bus-range}
-use Rattle.rules.proofs.Validity.{core-parts, port-cycle}
+use Rattle.rules.proofs.Validity.{valid-bus}
 use Rattle.rules.proofs.Slots.{slot-runs}
 use Rattle.rules.proofs.Clock.{new-length}
 use Rattle.rules.proofs.World.{clocked-keeps}
@@ -129,12 +128,7 @@ prescaled-length c h =
 -- ---- its bus time
 
 range : (c : Core) → validCore c ≡ true → (4 ≤ newSlot c .bus) × (newSlot c .bus ≤ 64)
-range c v =
-    let p = core-parts c v in
-    let a = port-cycle _ (p .a) in
-    let b = port-cycle _ (p .b) in
-    let r = bus-range (c .control .speed) _ _ (a .least) (a .most) (b .least) (b .most) in
-    (r .least, r .most)
+range c v = let r = valid-bus c v in (r .least, r .most)
 
 -- ---- the claim
 

@@ -8,7 +8,7 @@ use mathlib.Core.List.{[], _∷_}
 use lib.Dec.{leb, ltb, eqb}
 use borrow.Author.Tests.{ltb-true, leb-true, leb-false, eqb-true, eqb-false, lt-ltb, le-ltb, le-leb, eq-eqb, ne-eqb, not-true}
 use Rattle.rules.specs.Blocks.{blockCount, finished}
-use Rattle.rules.specs.Slots.{unmoved}
+use Rattle.rules.specs.Slots.{unmoved, newSlot}
 use Rattle.rules.specs.Validity.{validPort, validReadback, restingSlot, mostLength, prescaledLength, validLength, runningSlot, validSlot, validProgress, validCore, validCoreIf}
 use Rattle.rules.specs.Facts.{ValidParts, ValidCycle, ValidReading, Resting, SlotLength, busTime, prescaled, Running, ValidSlot, resting, running}
 use Rattle.rules.specs.declared.Port.{Port}
@@ -16,6 +16,7 @@ use Rattle.rules.specs.declared.Block.{Block}
 use Rattle.rules.specs.declared.Readback.{Readback}
 use Rattle.rules.specs.declared.Slot.{Slot}
 use Rattle.rules.specs.declared.Core.{Core}
+use Rattle.rules.proofs.Speed.{BusTime, bus-range}
 use Rattle.rules.proofs.Choice.{pick-true, pick-false, not-of-false, either, all-true, true-all, means-so, so-means, any-first, any-more, any-cases, any-none}
 
 -- ---- the core, part by part
@@ -160,3 +161,11 @@ pub record Bounded (c : Core) : Type 0 where
 pub valid-bounded : (c : Core) → validCore c ≡ true → Bounded c
 valid-bounded c e =
     let v = core-parts c e in record { counter = v .counter; elapsed = slot-elapsed _ _ (slot-facts _ _ (v .slot)) }
+
+-- the bus time of the slot that the registers of a valid core start
+pub valid-bus : (c : Core) → validCore c ≡ true → BusTime (newSlot c .bus)
+valid-bus c v =
+    let p = core-parts c v in
+    let a = port-cycle _ (p .a) in
+    let b = port-cycle _ (p .b) in
+    bus-range (c .control .speed) _ _ (a .least) (a .most) (b .least) (b .most)

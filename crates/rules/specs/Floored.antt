@@ -90,6 +90,10 @@ pub record FloorHolds : Type 1 where
       → clocked σ before s .clocks .cpu < clocked σ (before + n) s .clocks .cpu
   -- the clocks need the condition alone: so it is of any core whatsoever that meets it, valid or not
   pub unchecked : {M : Type 0} (σ : Store M) (s : System M) (before : ℕ) → AllShared (s .world .core) → CpuAmong σ s before (floorOf (s .world .core))
+  -- after any clocks the condition is met, and the bound is no larger
+  pub kept :
+      {M : Type 0} (σ : Store M) (s : System M) (n : ℕ) → AllShared (s .world .core)
+      → AllShared (clocked σ n s .world .core) × (floorOf (clocked σ n s .world .core) ≤ floorOf (s .world .core))
   -- of an enabled device with no clock elapsed, one clock fewer has none of the processor; of others a smaller number may do
   pub tight :
       {M : Type 0} (σ : Store M) (s : System M) (n : ℕ) → AllShared (s .world .core)
@@ -213,6 +217,12 @@ pub record FloorNearest : Type 0 where
   pub rest : countsAfter 63 (inOwnSlot 1 64 96 (inBurst 3 2 1 1)) ≡ record { bus = 63; held = 0; cpu = 0 }
   -- and one that has no wait: no floor, though the processor has clocks of every other slot
   pub no-wait : NoFloor 67 0 (inOwnSlot 1 64 64 (inBurst 3 2 1 2))
+  -- the slots behind it count as well: its wait goes on for 28 clocks, and the registers' bus time is the largest
+  pub behind : cpuFloor (inOwnSlot 4 4 32 (inBurst 0 4 3 2)) 0 ≡ 65
+  pub next : countsAfter 92 (inOwnSlot 4 4 32 (inBurst 0 4 3 2)) ≡ record { bus = 64; held = 0; cpu = 28 }
+  -- and where they have no wait there is no floor, though this one has
+  pub no-wait-behind : cpuFloor (inOwnSlot 4 4 32 (inBurst 3 2 0 20)) 0 ≡ 0
+  pub next-ones : countsAfter 94 (inOwnSlot 4 4 32 (inBurst 3 2 0 20)) ≡ record { bus = 66; held = 0; cpu = 28 }
 
 -- ---- a list, worked out
 
