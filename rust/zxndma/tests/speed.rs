@@ -1,32 +1,13 @@
 //! The processor's speed: its codes, what a transfer takes at each, and what
 //! sets it.
 
-use zxndma::{speed, Device, BUFFER_LENGTH};
+mod common;
 
-const PORT: u16 = 0x006B;
+use common::{pass, send, set};
+use zxndma::{speed, Device};
+
 const RESET: u8 = 0xC3;
 const CODES: [u8; 4] = [speed::MHZ_3_5, speed::MHZ_7, speed::MHZ_14, speed::MHZ_28];
-
-fn set(device: Device, code: u8) -> Device {
-    let set = device.set_speed(code);
-    assert_eq!(set.number, 0, "{code}");
-    set.device
-}
-
-fn send(device: Device, bytes: &[u8]) -> Device {
-    bytes.iter().fold(device, |device, byte| {
-        let written = device.write(PORT, *byte);
-        assert_eq!(written.number, 0, "{byte:02X}");
-        written.device
-    })
-}
-
-fn pass(device: Device, clocks: u32) -> Device {
-    let (mut memory, mut latches) = (vec![0; BUFFER_LENGTH], vec![0; BUFFER_LENGTH]);
-    let granted = device.grant(&mut memory, &mut latches, clocks);
-    assert_eq!(granted.number, 0, "{clocks}");
-    granted.device
-}
 
 /// Two bytes from 1000 to 2000 in burst, both cycles 4, enabled.
 fn transferring(code: u8, prescaler: u8) -> Device {
