@@ -1377,8 +1377,8 @@ table =
     ∷ supposeCounts 18446744073709551615 1 0
     ∷ sendRefused 0x6B 0x03 1
     ∷ [])
-    -- the floor of P4: among any five clocks one is the processor's; four clocks of a byte have none, and the block's end changes
-    -- nothing, as disabled the device leaves it all clocks
+    -- P4 with two bytes: among any five clocks one is the processor's; four clocks of a byte have none, and the block's end changes
+    -- nothing, as disabled the device leaves it all clocks; with counts that do not fit there is no floor
     ∷ row "floor at 28 MHz"
     (send 0x6B (program 0x1000 2 (0x22 ∷ 0x01 ∷ []) 0xCD 0x2000 0x82)
     ∷ floor 5
@@ -1424,7 +1424,7 @@ table =
     ∷ counts 256 0 32
     ∷ [])
     -- disabled, the device is asked for the slot that its registers would start: not one that is continuous, nor one without a
-    -- prescaler; the speed counts
+    -- prescaler; the speed counts; at the end an enabled one, and one that is not valid
     ∷ row "floor of a disabled device"
     (floor 0
     ∷ send 0x6B (0x50 ∷ 0x20 ∷ 0x01 ∷ [])
@@ -1490,8 +1490,8 @@ table =
     ∷ clocks 1
     ∷ counts 36 0 33
     ∷ [])
-    -- raised in a slot that has no wait: as long as it runs there is no floor, and its clocks and the next slot's have none of the
-    -- processor
+    -- raised in a slot that has no wait: as long as it runs there is no floor, and its clocks and those of the next slot have none
+    -- of the processor
     ∷ row "floor, speed raised in a slot without a wait"
     (speed 0
     ∷ send 0x6B (program 0x1000 2 (0x22 ∷ 0x01 ∷ []) 0xCD 0x2000 0x82)
@@ -1559,8 +1559,8 @@ table =
     ∷ clocks 64
     ∷ counts 12 56 28
     ∷ [])
-    -- a slot that runs and has not the registers' figures, as a host may put it: continuous, no longer than its bus time, and with
-    -- the largest one
+    -- a slot that runs and has not the registers' figures, as a host may put it: continuous, no longer than its bus time, with the
+    -- largest one, and with one too large to be valid
     ∷ row "floor, a slot of its own"
     (send 0x6B (program 0x1000 3 (0x22 ∷ 0x01 ∷ []) 0xCD 0x2000 0x82)
     ∷ floor 5

@@ -26,7 +26,7 @@ fn larger_of(x: u16, y: u16) -> u16
     x
 }
 
-// The processor has clocks of the slot that the registers start, and of the one that the next clock is of.
+// The processor has clocks of the slot that the registers start, and of the one that runs, or else begins.
 fn all_shared(c: Core) -> bool
     ensures { λ r. ⌜ r ≡ allShared c ⌝ }
 {
@@ -46,8 +46,9 @@ fn floor_of(c: Core) -> u32
 }
 
 // Among any so many clocks in a row, the next one or a later one being the first, one at least is the processor's, as long as up
-// to the last of them no port access and no speed call is accepted; at most 65. 0, which claims nothing, if the device is not
-// valid, or if the slot that runs or the one that the registers start is continuous or no longer than its bus time.
+// to the last of them no port access and no speed call is accepted and nobody changes the device otherwise; at most 65. 0, which
+// claims nothing, if the device is not valid, or if the slot that runs or the one that the registers start, enabled or not, is
+// continuous or no longer than its bus time.
 pub fn cpu_floor(c: Core, k: Clocks) -> u32
     ensures { λ r. ⌜ r ≡ cpuFloor c (total k) ⌝ }
 {

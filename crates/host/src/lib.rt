@@ -64,8 +64,8 @@ pub extern "C" fn zxndma_valid(device: Device) -> bool
     device.is_valid()
 }
 
-// A floor under the processor's time: among any so many clocks in a row one at least is the processor's, as long as no port
-// access and no speed call is accepted; 0 claims nothing.
+// A floor under the processor's time: among any so many clocks in a row one at least is the processor's, as long as up to the
+// last of them no port access and no speed call is accepted and nobody changes the device otherwise; at most 65. 0 claims nothing.
 #[no_mangle]
 pub extern "C" fn zxndma_cpu_floor(device: Device) -> u32
     ensures { λ r. ⌜ r ≡ cpuFloor (device .core) (total (device .clocks)) ⌝ }

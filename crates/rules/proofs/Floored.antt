@@ -1,6 +1,7 @@
--- The floor under the processor's time. Until its next clock the processor waits for the rest of a slot's bus time: each of these
--- clocks makes it one less, and with none left the clock is the processor's. It is never more than the largest bus time, since
--- clocks leave the registers. Over a list, what was noted since the processor's last clock and what is left are together no more.
+-- The floor under the processor's time. Until its next clock the processor waits for the rest of a slot's bus time: each of
+-- these clocks makes it one less, and with none left the clock is the processor's. It is never more than the largest bus time,
+-- since clocks leave the registers as they are. Over a list, what was noted since the processor's last clock and what is left are
+-- together no more.
 -- Assumes nothing.
 use Prim.Native.Nat.{ℕ, zero, suc, _+_, _-_, _≤_, _<_}
 use native.Mathlib.Omega.{arith}
@@ -51,7 +52,7 @@ facts-shared : (s : Slot) → Shared s → shared s ≡ true
 unfolding shared
 facts-shared s f = true-all (s .burst ∷ ltb (s .bus) (s .length) ∷ []) (f .burst, (lt-ltb _ _ (f .longer), tt))
 
--- what holds of the slot that begins, and of one that runs, holds of the one that the next clock is of
+-- what holds of the slot that begins, and of one that runs, holds of the one that runs, or else begins
 slot-cases : (P : Slot → Type 0) (c : Core) → P (newSlot c) → ((c .slot .elapsed ≡ 0 → ⊥) → P (c .slot)) → P (slotOf c)
 unfolding slotOf
 slot-cases P c p q = pick-cases P (eqb (c .slot .elapsed) 0) _ _ (λ e. p) (λ e. q (eqb-false _ _ e))
@@ -425,7 +426,7 @@ unfolding Never
 never-behind most [] ys n = n
 never-behind most (x ∷ xs) ys n = never-behind most xs ys (n .1)
 
--- events none of which is a clock of the processor are as many
+-- events of which none is a clock of the processor are no more than were noted since its last one
 none-of : (k : Kind) (cpu n m : ℕ) → (cpu ≡ 0 → n ≤ m) → ofKind cpuClock k + cpu ≡ 0 → suc n ≤ since k m
 none-of busClock cpu n m f e = let h = f (sym (zero-add _) ∙ e) in omega (arith, h)
 none-of heldClock cpu n m f e = let h = f (sym (zero-add _) ∙ e) in omega (arith, h)
@@ -600,6 +601,7 @@ floor-nearest =
       no-wait = record { valid = refl; floor = refl; many = omega arith; none = refl };
       behind = refl;
       next = refl;
+      valid = refl;
       no-wait-behind = refl;
       next-ones = refl;
     }

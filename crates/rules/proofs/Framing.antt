@@ -53,8 +53,8 @@ module _ (speed : ℕ) (Q : Slot → Type 0) (rest : Q noSlot) where
   unfolding effectOver
   written-framed port byte c f = carried-framed (inMode port c) f byte
 
--- ---- a clock leaves both cycles, the control and the pending parameters, and the figures of the slot that runs or begins, unless
--- it is the last
+-- ---- a clock leaves both cycles, the control and the pending parameters, and the figures of the slot that runs or begins,
+-- unless it is the last
 
 module _ (P : ℕ → ℕ → Control → ℕ → Type 0) (Q : Slot → Type 0) (rest : Q noSlot) where
   abbrev Left : Core → Type 0

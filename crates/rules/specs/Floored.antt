@@ -221,6 +221,7 @@ pub record FloorNearest : Type 0 where
   pub behind : cpuFloor (inOwnSlot 4 4 32 (inBurst 0 4 3 2)) 0 ≡ 65
   pub next : countsAfter 92 (inOwnSlot 4 4 32 (inBurst 0 4 3 2)) ≡ record { bus = 64; held = 0; cpu = 28 }
   -- and where they have no wait there is no floor, though this one has
+  pub valid : validCore (inOwnSlot 4 4 32 (inBurst 3 2 0 20)) ≡ true
   pub no-wait-behind : cpuFloor (inOwnSlot 4 4 32 (inBurst 3 2 0 20)) 0 ≡ 0
   pub next-ones : countsAfter 94 (inOwnSlot 4 4 32 (inBurst 3 2 0 20)) ≡ record { bus = 66; held = 0; cpu = 28 }
 
