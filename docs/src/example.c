@@ -159,7 +159,7 @@ static void run(void)
     device = pass(send(set.device, again, sizeof again), 8 * 16);
     print_clocks("clocks, with the same at 3.5 MHz:", device.clocks);
 
-    /* Between the bytes of a burst with a prescaler the processor has clocks. An interrupt waits for one of them. */
+    /* In burst, with slots longer than their bus time, the processor has clocks between the bytes: an interrupt waits for one. */
     printf("CPU floor, continuous: %" PRIu32 "\n", zxndma_cpu_floor(device));
     device = send(device, paced, sizeof paced);
     printf("CPU floor, burst: one of any %" PRIu32 " clocks\n", zxndma_cpu_floor(device));

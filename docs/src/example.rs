@@ -149,8 +149,8 @@ fn run() {
     device = pass(send(set.device, &AGAIN), &mut memory, &mut latches, 8 * 16);
     print_clocks("clocks, with the same at 3.5 MHz:", device.clocks);
 
-    // Between the bytes of a burst with a prescaler the processor has clocks. An
-    // interrupt waits for one of them.
+    // In burst, with slots longer than their bus time, the processor has clocks
+    // between the bytes: an interrupt waits for one.
     println!("CPU floor, continuous: {}", device.cpu_floor());
     device = send(device, &PACED);
     println!("CPU floor, burst: one of any {} clocks", device.cpu_floor());

@@ -10,9 +10,9 @@
 //! floors, the warnings and the numbers of pending parameters that came. It also
 //! tries all 65,536 of these, every byte with those that are valid, reads by all
 //! masks from all positions, all codes of the speed, a slot's figures about all that
-//! are valid, and the floors of all registers that slots go by with any running
-//! slot, and sees that the second program stops where a slot would begin with its
-//! block finished. Floors are held against clocks that the second program takes
+//! are valid, and the floors of all speeds and cycles with five prescalers and with
+//! running slots of every bus time, and sees that the second program stops where a
+//! slot would begin with its block finished. Floors are held against clocks that the second program takes
 //! singly, also in lists of grants with refused calls between them.
 //!
 //! Built by `rustc --edition 2021 -O -L native=target/staticlib states.rs`,
@@ -89,7 +89,7 @@ For each seed it tries, on devices that are valid otherwise:
   rules allow must be valid;
 - the floors of all speeds and cycles with prescalers 0 to 3 and 255, in burst and
   continuous, with running slots of each bus time, and enabled and disabled without
-  one: of the latter as many as the rules allow must have a floor. The second
+  one: of those without as many as the rules allow must have a floor. The second
   program takes clocks singly: with a floor, fewer than it in a row may pass without
   a CPU clock; where slots leave the processor no clock, more than any floor must;
 - the same in 2000 lists of grants with refused calls and changes of memory between
@@ -1680,8 +1680,8 @@ fn every_registers() -> Vec<Registers> {
 /// one of them is 64.
 const REGISTERS_WITH_FLOOR: u32 = (9 + 9 + 8) + (9 + 9 + 9 + 8) + 4 * 9 + 4 * 9;
 
-/// The bytes of a block, and whether it starts again. All but the last one end
-/// within the clocks that are taken.
+/// The bytes of a block, and whether it starts again. Of an enabled device with a
+/// floor all but the last one end within the clocks that are taken.
 const BLOCKS: [(u32, bool); 5] = [(1, false), (1, true), (2, false), (2, true), (1_000, true)];
 
 /// Valid, with these registers, this running slot or none, and this block,

@@ -32,8 +32,9 @@ the end the clocks, the memory and latches that the DMA wrote, and what is left.
 Clocks are those of 28 MHz, at which a session runs: it has no word for the speed.
 A write of a value that programs should not use has ! in its line, and the words
 say what to use; it changes no exit status.
-Below Enable, and below a write in a wait that changes it, is the CPU floor: of
-any so many clocks in a row without a port access the processor has one at least.
+Below an Enable that leaves one, and below a write in a wait that changes it, is
+the CPU floor: of any so many clocks in a row without a port access the processor
+has one at least.
 Where something looks like a mistake there is advice: the reason, and what to do.
   --all        every move and every byte
   --lines      the bench's lines and nothing else
