@@ -2,14 +2,13 @@
 -- Assumes nothing.
 use Prim.Native.Nat.{ℕ}
 use mathlib.Core.Path.{_≡_}
-use mathlib.Core.Bool.{false}
-use mathlib.Core.Option.{Option, none, some}
+use mathlib.Core.Option.{none, some}
 use mathlib.Core.List.{List, [], _∷_, _++_}
 use lib.ListN.{length, replicate}
-use Rattle.rules.specs.Clock.{Kind, busClock, cpuClock}
+use Rattle.rules.specs.Clock.{busClock, cpuClock}
 use Rattle.rules.specs.Buffers.{flat}
 use Rattle.rules.specs.Entries.{Poke, flatOutside, Entry, portWrite, speedCall, clockGrant, otherGrant, outsideChange}
-use Rattle.rules.specs.History.{Event, clockNoted, counterZeroed, Past, History, history, pastAtPowerOn}
+use Rattle.rules.specs.History.{Event, counterZeroed, stillClock, movingClock, Past, History, history, pastAtPowerOn}
 
 -- bytes written to port 006B before other entries
 unfoldable pub sent : List ℕ → List (Entry flat (List Poke)) → List (Entry flat (List Poke))
@@ -25,20 +24,6 @@ settingSpeed code = speedCall code
 
 abbrev pub poking : ℕ → ℕ → Entry flat (List Poke)
 poking address byte = outsideChange (record { address = address; byte = byte } ∷ [])
-
--- a clock on which nothing moves
-abbrev pub stillClock : Kind → Event
-stillClock k = clockNoted (record { kind = k; move = none; zeroed = none })
-
--- a bus clock on which a byte moves between two addresses of memory
-abbrev pub movingClock : ℕ → ℕ → ℕ → Option ℕ → Event
-movingClock from to byte held =
-    clockNoted
-    (record {
-      kind = busClock;
-      move = some (record { from = record { address = from; io = false }; to = record { address = to; io = false }; byte = byte });
-      zeroed = held;
-    })
 
 -- the three clocks before the byte of a slot moves
 abbrev pub threeBefore : List Event → List Event

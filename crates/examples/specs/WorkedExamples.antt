@@ -6,7 +6,7 @@ use Prim.Native.String.{String}
 use mathlib.Core.Path.{_≡_}
 use mathlib.Core.Bool.{Bool, true, false}
 use mathlib.Core.List.{List, [], _∷_, _++_}
-use Rattle.rules.specs.Parts.{withCycle, withCounter, withMask, withPosition, withA, withB, withBlock, withReadback, withPending, withSlot}
+use Rattle.rules.specs.Parts.{withCycle, withCounter, withMask, withPosition, withA, withB, withBlock, withReadback, withPending, inSlot}
 use Rattle.rules.specs.declared.Core.{Core}
 use Rattle.rules.specs.Speed.{atSpeed}
 use Rattle.rules.specs.Slots.{slotLength}
@@ -35,10 +35,6 @@ idle =
 -- the number of the pending parameters
 abbrev pub pendingNumber : Core → ℕ
 pendingNumber c = c .pending
-
--- a core in this slot
-abbrev pub inSlot : ℕ → ℕ → ℕ → Bool → Core → Core
-inSlot n bus length burst c = withSlot (record { elapsed = n; bus = bus; length = length; burst = burst }) c
 
 -- in a burst wait with 22 clocks of its slot left: they run on, and with the last of them the block ends and the device is
 -- disabled

@@ -12,7 +12,7 @@ use borrow.Author.Tests.{ltb-true, eqb-true, eqb-false}
 use Rattle.rules.specs.Choice.{every}
 use Rattle.rules.specs.Parts.{withSlot}
 use Rattle.rules.specs.Blocks.{blockCount, finished}
-use Rattle.rules.specs.Slots.{noSlot, unmoved, larger, slotLength, newSlot, slotOf}
+use Rattle.rules.specs.Slots.{noSlot, unmoved, larger, slotLength, newSlot}
 use Rattle.rules.specs.Validity.{mostBus}
 use Rattle.rules.specs.Facts.{Kept, SlotLength, busTime, prescaled, ValidSlot, resting, running}
 use Rattle.rules.specs.Clock.{Clock, moved, withElapsed, movesAt, movedAt, Ending, slotEnd, clockEnd, slotClock, begun, clockOf}
@@ -21,7 +21,7 @@ use Rattle.rules.specs.declared.Core.{Core}
 use Rattle.rules.proofs.Choice.{clash, pick-cases, all-true}
 use Rattle.rules.proofs.Speed.{BusTime, bus-range}
 use Rattle.rules.proofs.Blocks.{unfinished-room, reloaded-unfinished}
-use Rattle.rules.proofs.Slots.{unmoved-cases, unmoved-first, unmoved-below}
+use Rattle.rules.proofs.Slots.{slot-cases, unmoved-cases, unmoved-first, unmoved-below}
 use Rattle.rules.proofs.Ports.{good-advanced, good-loaded}
 use Rattle.rules.proofs.Steady.{SteadyCore, steady-a, steady-b, steady-block, kept-from, kept-steady, kept-slot, kept-progress}
 
@@ -139,14 +139,12 @@ next-turn c k (running o r) on e =
 
 -- the next clock of the slot that runs or begins
 begun-turn : (c : Core) → Kept c → c .enabled ≡ true → Turn (c .slot .elapsed + 1) (begun c)
-unfolding slotOf
 begun-turn c k on =
-    pick-cases (λ (s : Slot). Turn (c .slot .elapsed + 1) (withSlot s c)) (eqb (c .slot .elapsed) 0) _ _
-    (λ z.
-    let e = eqb-true (c .slot .elapsed) 0 z in
+    slot-cases (λ (s : Slot). Turn (c .slot .elapsed + 1) (withSlot s c)) c
+    (λ e.
     subst (λ n. Turn (n + 1) (withSlot (newSlot c) c)) (sym e)
     (first-turn c (kept-steady c k) on (kept-progress c k on (unmoved-first (c .slot) e))))
-    (λ z. next-turn c k (kept-slot c k) on (eqb-false _ _ z))
+    (λ n. next-turn c k (kept-slot c k) on n)
 
 -- one clock keeps a valid core valid
 pub clock-kept : (c : Core) → Kept c → Kept (clockOf c .next)

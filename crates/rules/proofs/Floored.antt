@@ -5,23 +5,24 @@
 -- Assumes nothing.
 use Prim.Native.Nat.{ℕ, zero, suc, _+_, _-_, _≤_, _<_}
 use native.Mathlib.Omega.{arith}
-use native.Mathlib.Nat.{add-zero, zero-add, add-suc, suc-add, add-assoc, le-of-lt, le-refl, le-trans}
+use native.Mathlib.Nat.{add-zero, zero-add, add-suc, suc-add, add-assoc, le-refl, le-trans}
 use mathlib.Core.Path.{_≡_, refl, sym, _∙_, ap, subst}
 use mathlib.Core.Bool.{Bool, true, false}
 use mathlib.Core.List.{List, [], _∷_, _++_}
 use mathlib.Core.Option.{none}
 use lib.Dec.{ltb, eqb}
 use lib.ListN.{length}
-use borrow.Author.Tests.{ltb-true, ltb-false, eqb-true, eqb-false, lt-ltb, le-leb, lt-leb}
+use borrow.Author.Tests.{ltb-true, eqb-true, eqb-false, lt-ltb, le-leb, lt-leb}
 use Rattle.rules.specs.Choice.{pick}
 use Rattle.rules.specs.Speed.{atSpeed}
 use Rattle.rules.specs.Slots.{busTimeOf, larger, slotLength, newSlot, slotOf}
 use Rattle.rules.specs.Validity.{validCore, valid, total}
-use Rattle.rules.specs.Facts.{ValidSlot, resting, running}
+use Rattle.rules.specs.Facts.{InRange, ValidSlot, resting, running}
 use Rattle.rules.specs.Readback.{readByte}
 use Rattle.rules.specs.Clock.{Kind, busClock, heldClock, cpuClock, counted, Clock, clock, moved, withElapsed, movesAt, movedAt, kindAt, ending, slotEnd, clockEnd, slotClock, begun, clockOf}
 use Rattle.rules.specs.Buffers.{Store}
 use Rattle.rules.specs.World.{World, System, note, stepCounted, clocked}
+use Rattle.rules.specs.Calls.{Answer, grant, grantOver}
 use Rattle.rules.specs.Entries.{Outside, Entry, portWrite, portRead, speedCall, clockGrant, otherGrant, outsideChange, enter, run, runOver}
 use Rattle.rules.specs.History.{Event, clockNoted, counterZeroed, Past, withCore, writePassed, clockPassed, clocksPassed, grantPassed, changePassed, notedUnless, noteEntry, history, pastAtPowerOn, clocksPassedBy, historyBy}
 use Rattle.rules.specs.Accounts.{ofKind, clocksNoted, clocksAsked, clocksAccepted, numbersOf}
@@ -34,10 +35,10 @@ use Rattle.rules.specs.declared.Core.{Core}
 use Rattle.rules.proofs.Choice.{pick-true, pick-false, pick-cases, pick-both, both-picked, either, all-true, true-all}
 use Rattle.rules.proofs.Speed.{BusTime}
 use Rattle.rules.proofs.Validity.{core-parts, slot-facts, valid-bus}
-use Rattle.rules.proofs.Slots.{slot-begins, slot-runs}
+use Rattle.rules.proofs.Slots.{slot-begins, slot-runs, slot-cases, larger-left, larger-right, larger-cases}
 use Rattle.rules.proofs.Framing.{clock-timed}
 use Rattle.rules.proofs.World.{clocked-zero, clocked-suc, clocked-add, clocked-keeps}
-use Rattle.rules.proofs.Calls.{valid-core, device-valid}
+use Rattle.rules.proofs.Calls.{valid-core, device-valid, stays-valid-by-test}
 use Rattle.rules.proofs.Entries.{reached-valid, empty-wrong}
 use Rattle.rules.proofs.Accounts.{Agree, no-clocks, entry-step, start-agrees, ends}
 use Rattle.rules.proofs.SplittingLists.{history-behind}
@@ -52,16 +53,11 @@ facts-shared : (s : Slot) → Shared s → shared s ≡ true
 unfolding shared
 facts-shared s f = true-all (s .burst ∷ ltb (s .bus) (s .length) ∷ []) (f .burst, (lt-ltb _ _ (f .longer), tt))
 
--- what holds of the slot that begins, and of one that runs, holds of the one that runs, or else begins
-slot-cases : (P : Slot → Type 0) (c : Core) → P (newSlot c) → ((c .slot .elapsed ≡ 0 → ⊥) → P (c .slot)) → P (slotOf c)
-unfolding slotOf
-slot-cases P c p q = pick-cases P (eqb (c .slot .elapsed) 0) _ _ (λ e. p) (λ e. q (eqb-false _ _ e))
-
 met : (c : Core) → AllShared c → allShared c ≡ true
 unfolding allShared
 met c f =
     true-all (shared (newSlot c) ∷ shared (slotOf c) ∷ [])
-    (facts-shared _ (f .registers), (facts-shared _ (slot-cases Shared c (f .registers) (f .running)), tt))
+    (facts-shared _ (f .registers), (facts-shared _ (slot-cases Shared c (λ e. f .registers) (f .running)), tt))
 
 meets : (c : Core) → allShared c ≡ true → AllShared c
 unfolding allShared
@@ -74,26 +70,11 @@ meets c e =
 
 -- ---- the bound
 
-larger-left : (x y : ℕ) → x ≤ larger x y
-unfolding larger
-larger-left x y = pick-cases (λ n. x ≤ n) (ltb x y) y x (λ e. le-of-lt (ltb-true _ _ e)) (λ e. le-refl x)
-
-larger-right : (x y : ℕ) → y ≤ larger x y
-unfolding larger
-larger-right x y = pick-cases (λ n. y ≤ n) (ltb x y) y x (λ e. le-refl y) (λ e. ltb-false _ _ e)
-
-larger-cases : (P : ℕ → Type 0) (x y : ℕ) → P x → P y → P (larger x y)
-unfolding larger
-larger-cases P x y p q = pick-both P (ltb x y) y x q p
-
-larger-same : (x : ℕ) → larger x x ≡ x
-larger-same x = larger-cases (λ n. n ≡ x) x x refl refl
-
 -- with no clock elapsed, the registers' bus time is the one that counts
 alone : (c : Core) → c .slot .elapsed ≡ 0 → floorOf c ≡ newSlot c .bus + 1
 unfolding floorOf
 alone c e =
-    ap (λ (s : Slot). larger (newSlot c .bus) (s .bus) + 1) (slot-begins c e) ∙ ap (λ n. n + 1) (larger-same (newSlot c .bus))
+    ap (λ (s : Slot). larger (newSlot c .bus) (s .bus) + 1) (slot-begins c e) ∙ ap (λ n. n + 1) (larger-cases (λ n. n ≡ newSlot c .bus) _ _ refl refl)
 
 bound : (c : Core) → OneMore c (floorOf c)
 unfolding floorOf
@@ -106,7 +87,7 @@ bound c =
           (let h = larger-right (newSlot c .bus) (slotOf c .bus) in omega (arith, h));
       one =
           larger-cases (λ n. OneOf c (n + 1)) (newSlot c .bus) (slotOf c .bus) (ofRegisters refl)
-          (slot-cases (λ (s : Slot). OneOf c (s .bus + 1)) c (ofRegisters refl) (λ n. ofRunning n refl));
+          (slot-cases (λ (s : Slot). OneOf c (s .bus + 1)) c (λ e. ofRegisters refl) (λ n. ofRunning n refl));
     }
 
 floor-larger : (c : Core) → larger (newSlot c .bus) (slotOf c .bus) + 1 ≡ floorOf c
@@ -141,19 +122,20 @@ running-range t s (running on r) n = record { least = r .least; most = r .most }
 
 slot-range : (c : Core) → validCore c ≡ true → BusTime (slotOf c .bus)
 slot-range c v =
-    slot-cases (λ (s : Slot). BusTime (s .bus)) c (valid-bus c v)
+    slot-cases (λ (s : Slot). BusTime (s .bus)) c (λ e. valid-bus c v)
     (running-range (c .enabled) (c .slot) (slot-facts _ _ (core-parts c v .slot)))
 
-record FloorRange (n : ℕ) : Type 0 where
-  least : 5 ≤ n
-  most : n ≤ 65
+-- the larger of the two
+largest-bus : (c : Core) → validCore c ≡ true → BusTime (larger (newSlot c .bus) (slotOf c .bus))
+largest-bus c v = larger-cases BusTime (newSlot c .bus) (slotOf c .bus) (valid-bus c v) (slot-range c v)
 
-floor-range : (c : Core) → validCore c ≡ true → FloorRange (floorOf c)
+floor-most : (c : Core) → validCore c ≡ true → floorOf c ≤ 65
 unfolding floorOf
-floor-range c v =
-    larger-cases (λ n. FloorRange (n + 1)) (newSlot c .bus) (slotOf c .bus)
-    (let r = valid-bus c v in record { least = omega (arith, r .least); most = omega (arith, r .most) })
-    (let r = slot-range c v in record { least = omega (arith, r .least); most = omega (arith, r .most) })
+floor-most c v = let h = largest-bus c v .most in omega (arith, h)
+
+floor-least : (c : Core) → validCore c ≡ true → 5 ≤ floorOf c
+unfolding floorOf
+floor-least c v = let h = largest-bus c v .least in omega (arith, h)
 
 pub floor-exact : FloorExact
 floor-exact =
@@ -164,12 +146,12 @@ floor-exact =
       answered = answered;
       invalid = invalid;
       unmet = unmet;
-      most = λ c v. floor-range c v .most;
-      most-answered = λ c sum. floor-cases (λ n. n ≤ 65) c sum (omega arith) (λ v f. floor-range c (valid-core c sum v) .most);
+      most = floor-most;
+      most-answered = λ c sum. floor-cases (λ n. n ≤ 65) c sum (omega arith) (λ v f. floor-most c (valid-core c sum v));
       least-answered =
           λ c sum.
           floor-cases (λ n. (n ≡ 0 → ⊥) → 5 ≤ n) c sum (λ n. absurd (n refl))
-          (λ v f n. floor-range c (valid-core c sum v) .least);
+          (λ v f n. floor-least c (valid-core c sum v));
     }
 
 -- ---- the slots to come, within a bound
@@ -183,7 +165,7 @@ record AllWithin (most : ℕ) (c : Core) : Type 0 where
   running : (c .slot .elapsed ≡ 0 → ⊥) → Within most (c .slot)
 
 of-slot : (most : ℕ) (c : Core) → AllWithin most c → Within most (slotOf c)
-of-slot most c w = slot-cases (Within most) c (w .registers) (w .running)
+of-slot most c w = slot-cases (Within most) c (λ e. w .registers) (w .running)
 
 all-within : (c : Core) → AllShared c → AllWithin (larger (newSlot c .bus) (slotOf c .bus)) c
 all-within c f =
@@ -314,6 +296,11 @@ module _ {M : Type 0} (σ : Store M) where
       ap (λ (t : System M). clockOf (t .world .core) .kind) (clocked-one n s)
       ∙ on-bus most n k (stepCounted σ s) (clock-within most _ w) (h .1)
 
+  -- what holds after n clocks, and of the system as it was, holds after a grant
+  grant-cases : (P : System M → Type 0) (s : System M) (n : ℕ) → P (clocked σ n s) → P s → P (grant σ s n .system)
+  unfolding grantOver
+  grant-cases P s n p q = pick-both (λ (a : Answer M). P (a .system)) _ _ _ p q
+
   -- what holds of the slots to come holds after any clocks
   clocked-within : (most n : ℕ) (s : System M) → AllWithin most (s .world .core) → AllWithin most (clocked σ n s .world .core)
   clocked-within most = clocked-keeps σ (λ (t : System M). AllWithin most (t .world .core)) (λ t v. clock-within most _ v)
@@ -339,6 +326,26 @@ module _ {M : Type 0} (σ : Store M) where
   unchecked : (s : System M) (before : ℕ) → AllShared (s .world .core) → CpuAmong σ s before (floorOf (s .world .core))
   unfolding floorOf
   unchecked s before f = among _ s before (all-within (s .world .core) f)
+
+  -- a device that answers a floor is valid and meets the condition
+  floored : (s : System M) → (floorAt s ≡ 0 → ⊥) → (valid (s .world .core) (total (s .clocks)) ≡ true) × AllShared (s .world .core)
+  floored s =
+      floor-cases
+      (λ n. (n ≡ 0 → ⊥) → (valid (s .world .core) (total (s .clocks)) ≡ true) × AllShared (s .world .core))
+      (s .world .core) (total (s .clocks)) (λ n. absurd (n refl)) (λ v f n. (v, f))
+
+  granted : (s : System M) (n : ℕ) → InRange (s .world .core) → (floorAt s ≡ 0 → ⊥) → (floorAt (grant σ s n .system) ≡ 0 → ⊥) × (floorAt (grant σ s n .system) ≤ floorAt s)
+  granted s n i z =
+      let h = floored s z in
+      let k =
+      grant-cases (λ (t : System M). AllShared (t .world .core) × (floorOf (t .world .core) ≤ floorOf (s .world .core))) s n
+      (kept s n (h .1)) (h .1, le-refl _) in
+      let v = stays-valid-by-test σ .granted s n i (h .0) in
+      let e = answered (grant σ s n .system .world .core) _ v (k .0) in
+      let g = answered (s .world .core) _ (h .0) (h .1) in
+      let l = floor-least (grant σ s n .system .world .core) (valid-core _ _ v) in
+      let m = k .1 in
+      (λ y. omega (arith, l, e, y), omega (arith, e, g, m))
 
   floor-clocks : (s : System M) (before : ℕ) → (floorAt s ≡ 0 → ⊥) → CpuAmong σ s before (floorAt s)
   floor-clocks s before =
@@ -395,6 +402,7 @@ floor-holds =
       counts = λ σ s before n z h. among-counts σ s before (floorAt s) n (floor-clocks σ s before z) h;
       unchecked = unchecked;
       kept = kept;
+      granted = granted;
       tight = tight;
     }
 
@@ -606,12 +614,9 @@ floor-nearest =
       next-ones = refl;
     }
 
--- refusals
-three : _≡_ {A = ℕ} 3 0 → ⊥
-three e = omega (arith, e)
-
-seven : _≡_ {A = ℕ} 7 0 → ⊥
-seven e = omega (arith, e)
+-- a refusal's number
+refused : (n : ℕ) → suc n ≡ 0 → ⊥
+refused n e = omega (arith, e)
 
 pub floor-worked : FloorWorked empty-wrong
 unfolding opened Undisturbed clocksNoted numbersOf
@@ -621,10 +626,10 @@ floor-worked =
       undisturbed = (
         λ e. tt,
         (
-          λ e. absurd (three e),
+          λ e. absurd (refused 2 e),
           (
-            λ e. absurd (three e),
-            (λ e. absurd (seven e), (λ e. tt, (λ e. tt, (λ e. tt, (λ e. tt, tt))))),
+            λ e. absurd (refused 2 e),
+            (λ e. absurd (refused 6 e), (λ e. tt, (λ e. tt, (λ e. tt, (λ e. tt, tt))))),
           ),
         ),
       );

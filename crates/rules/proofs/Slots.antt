@@ -1,16 +1,18 @@
--- The slot that begins or runs, the slot's tests as facts, and what a free bus says of the slot.
+-- The slot that begins or runs, the larger of two numbers, the slot's tests as facts, and what a free bus says of the slot.
 -- Assumes nothing.
-use Prim.Native.Nat.{_≤_, _<_}
+use Prim.Native.Nat.{ℕ, _≤_, _<_}
 use native.Mathlib.Omega.{arith}
+use native.Mathlib.Nat.{le-refl, le-of-lt}
 use mathlib.Core.Path.{_≡_, sym, _∙_}
 use mathlib.Core.Bool.{Bool, true, false, not}
 use mathlib.Core.List.{[], _∷_}
-use borrow.Author.Tests.{ltb-true, leb-true, eqb-true, eq-eqb, ne-eqb, lt-ltb}
-use Rattle.rules.specs.Slots.{newSlot, slotOf, waiting, busHeld, unmoved}
+use lib.Dec.{ltb, eqb}
+use borrow.Author.Tests.{ltb-true, ltb-false, leb-true, eqb-true, eqb-false, eq-eqb, ne-eqb, lt-ltb}
+use Rattle.rules.specs.Slots.{larger, newSlot, slotOf, waiting, busHeld, unmoved}
 use Rattle.rules.specs.Facts.{ValidSlot, resting, running}
 use Rattle.rules.specs.declared.Slot.{Slot}
 use Rattle.rules.specs.declared.Core.{Core}
-use Rattle.rules.proofs.Choice.{clash, pick-true, pick-false, not-of-false, either, all-true, true-all, any-first, any-more, any-cases, any-none}
+use Rattle.rules.proofs.Choice.{clash, pick-true, pick-false, pick-cases, pick-both, not-of-false, either, all-true, true-all, any-first, any-more, any-cases, any-none}
 
 -- the next clock begins a slot, or is one of the slot that runs
 pub slot-begins : (c : Core) → c .slot .elapsed ≡ 0 → slotOf c ≡ newSlot c
@@ -20,6 +22,29 @@ slot-begins c e = pick-true _ _ _ (eq-eqb _ _ e)
 pub slot-runs : (c : Core) → (c .slot .elapsed ≡ 0 → ⊥) → slotOf c ≡ c .slot
 unfolding slotOf
 slot-runs c e = pick-false _ _ _ (ne-eqb _ _ e)
+
+-- what holds of the slot that begins, where none runs, and of the one that runs, holds of the one that runs, or else begins
+pub slot-cases : (P : Slot → Type 0) (c : Core) → (c .slot .elapsed ≡ 0 → P (newSlot c)) → ((c .slot .elapsed ≡ 0 → ⊥) → P (c .slot)) → P (slotOf c)
+unfolding slotOf
+slot-cases P c f g =
+    pick-cases P (eqb (c .slot .elapsed) 0) _ _ (λ e. f (eqb-true _ _ e)) (λ e. g (eqb-false _ _ e))
+
+-- ---- the larger of two numbers
+
+pub larger-left : (x y : ℕ) → x ≤ larger x y
+unfolding larger
+larger-left x y = pick-cases (λ n. x ≤ n) (ltb x y) y x (λ e. le-of-lt (ltb-true _ _ e)) (λ e. le-refl x)
+
+pub larger-right : (x y : ℕ) → y ≤ larger x y
+unfolding larger
+larger-right x y = pick-cases (λ n. y ≤ n) (ltb x y) y x (λ e. le-refl y) (λ e. ltb-false _ _ e)
+
+-- is one of them
+pub larger-cases : (P : ℕ → Type 0) (x y : ℕ) → P x → P y → P (larger x y)
+unfolding larger
+larger-cases P x y p q = pick-both P (ltb x y) y x q p
+
+-- ---- waiting
 
 -- waiting in a burst slot
 pub record Waiting (s : Slot) : Type 0 where

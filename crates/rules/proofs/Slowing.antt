@@ -2,12 +2,12 @@
 -- Assumes nothing.
 use Prim.Native.Nat.{ℕ, _+_, _*_, _≤_, _<_}
 use native.Mathlib.Omega.{arith}
-use native.Mathlib.Nat.{le-refl, le-of-lt}
 use mathlib.Core.Path.{_≡_, refl, sym, _∙_, ap}
 use mathlib.Core.Bool.{Bool, true, not}
-use lib.Dec.{ltb}
-use borrow.Author.Tests.{eq-eqb, ne-eqb, le-leb, lt-leb, ltb-true, ltb-false}
-use Rattle.rules.specs.Choice.{pick, firstHit}
+use mathlib.Core.List.{[], _∷_}
+use lib.Dec.{eqb}
+use borrow.Author.Tests.{eq-eqb, ne-eqb, le-leb, lt-leb}
+use Rattle.rules.specs.Choice.{pick, firstHit, any}
 use Rattle.rules.specs.Parts.{withSpeed, withControl, withSlot}
 use Rattle.rules.specs.Speed.{factor, atSpeed}
 use Rattle.rules.specs.Slots.{busTimeOf, larger, slotLength, newSlot}
@@ -23,9 +23,9 @@ use Rattle.rules.specs.Slowing.{clockAtSpeed, LargerOf, SpeedExact}
 use Rattle.rules.specs.declared.Slot.{Slot}
 use Rattle.rules.specs.declared.Clocks.{Clocks}
 use Rattle.rules.specs.declared.Core.{Core}
-use Rattle.rules.proofs.Choice.{pick-true, pick-false, pick-cases, pick-both, both-picked, any-first, any-more, either, not-of-false}
+use Rattle.rules.proofs.Choice.{pick-true, pick-false, pick-both, both-picked, any-first, any-more, either, not-of-false}
 use Rattle.rules.proofs.Validity.{valid-bus}
-use Rattle.rules.proofs.Slots.{slot-runs}
+use Rattle.rules.proofs.Slots.{slot-runs, larger-left, larger-right, larger-cases}
 use Rattle.rules.proofs.Clock.{new-length}
 use Rattle.rules.proofs.World.{clocked-keeps}
 use Rattle.rules.proofs.Calls.{unless-core, invalid-set-speed}
@@ -108,16 +108,14 @@ unfolding slotLength
 plain-length c e = pick-true _ _ _ (eq-eqb _ _ e)
 
 larger-of : (prescaler bus elapsed : ℕ) (burst : Bool) → LargerOf prescaler (record { elapsed = elapsed; bus = bus; length = larger bus (32 * prescaler); burst = burst })
-unfolding larger
 larger-of prescaler bus elapsed burst =
-    pick-cases (λ n. LargerOf prescaler (record { elapsed = elapsed; bus = bus; length = n; burst = burst })) (ltb bus (32 * prescaler)) _ _
-    (λ l.
     record {
-      bus = le-of-lt (ltb-true bus (32 * prescaler) l);
-      units = le-refl _;
-      one = any-more _ _ (any-first _ _ (eq-eqb (32 * prescaler) (32 * prescaler) refl));
-    })
-    (λ l. record { bus = le-refl _; units = ltb-false bus (32 * prescaler) l; one = any-first _ _ (eq-eqb bus bus refl) })
+      bus = larger-left _ _;
+      units = larger-right bus (32 * prescaler);
+      one =
+          larger-cases (λ n. any (eqb n bus ∷ eqb n (32 * prescaler) ∷ []) ≡ true) bus (32 * prescaler)
+          (any-first _ _ (eq-eqb bus bus refl)) (any-more _ _ (any-first _ _ (eq-eqb (32 * prescaler) (32 * prescaler) refl)));
+    }
 
 prescaled-length : (c : Core) → (c .control .prescaler ≡ 0 → ⊥) → LargerOf (c .control .prescaler) (newSlot c)
 unfolding slotLength

@@ -9,7 +9,7 @@ use mathlib.Core.Bool.{Bool, true, false}
 use mathlib.Core.List.{[], _∷_}
 use mathlib.Core.Option.{none}
 use lib.Dec.{eqb, leb, ltb}
-use borrow.Author.Tests.{eq-eqb, ne-eqb, le-leb, lt-leb, lt-ltb, le-ltb, eqb-true, ltb-true, ltb-false, leb-true}
+use borrow.Author.Tests.{eq-eqb, ne-eqb, le-leb, lt-leb, lt-ltb, le-ltb, ltb-true, ltb-false, leb-true}
 use Rattle.rules.specs.Choice.{pick, any}
 use Rattle.rules.specs.Parts.{withSlot}
 use Rattle.rules.specs.Slots.{newSlot, slotOf}
@@ -24,7 +24,7 @@ use Rattle.rules.specs.declared.Clocks.{Clocks}
 use Rattle.rules.specs.declared.Core.{Core}
 use Rattle.rules.specs.declared.Span.{Span}
 use Rattle.rules.proofs.Choice.{pick-true, pick-false, pick-both, pick-cases, pick-ap, either, all-true, true-all, any-first, any-more, any-cases, any-none, every-stop, every-stop-later, clash}
-use Rattle.rules.proofs.Slots.{slot-begins, slot-runs}
+use Rattle.rules.proofs.Slots.{slot-begins, slot-runs, slot-cases}
 use Rattle.rules.proofs.Spans.{kind-of-code, ticks-zero, ticks-suc, span-clocked}
 
 -- ---- a slot's n-th clock
@@ -283,10 +283,7 @@ positive {x} {y} {m} f o h g =
 
 -- the slot that begins has no clock elapsed, as the core has none
 pub slot-elapsed : (c : Core) → slotOf c .elapsed ≡ c .slot .elapsed
-unfolding slotOf
-slot-elapsed c =
-    pick-cases (λ (s : Slot). s .elapsed ≡ c .slot .elapsed) (eqb (c .slot .elapsed) 0) _ _
-    (λ e. sym (eqb-true (c .slot .elapsed) 0 e)) (λ e. refl)
+slot-elapsed c = slot-cases (λ (s : Slot). s .elapsed ≡ c .slot .elapsed) c (λ e. sym e) (λ n. refl)
 
 module _ (c : Core) (on : c .enabled ≡ true) where
   -- clocks of the present stretch

@@ -30,6 +30,7 @@ use Rattle.rules.specs.declared.Slot.{Slot}
 use Rattle.rules.specs.declared.Clocks.{Clocks}
 use Rattle.rules.specs.declared.Core.{Core}
 use Rattle.rules.proofs.Choice.{clash, pick-true, pick-false, pick-cases, pick-both, both-picked, either, all-true, true-all, every-stop, every-stop-later, every-at, any-first, any-more, any-cases, any-none}
+use Rattle.rules.proofs.Slots.{slot-cases}
 use Rattle.rules.proofs.Speed.{bus-full}
 use Rattle.rules.proofs.Validity.{core-parts, port-cycle, prescaled-facts}
 use Rattle.rules.proofs.Calls.{access, granted, unless-core, valid-core}
@@ -159,11 +160,7 @@ clock-timed3 c k = clock-timed Cycles (λ s. Unit {0}) tt c (k, tt) tt .0
 
 -- and from a short slot, short ones
 of-short : (c : Core) → Timed3 c → Short (c .slot) → slotOf c .bus ≤ 8
-unfolding slotOf
-of-short c k h =
-    pick-cases (λ (s : Slot). s .bus ≤ 8) (eqb (c .slot .elapsed) 0) _ _
-    (λ e. let b = bus-alike c (k .2) in omega (arith, b, k .0, k .1))
-    (λ e. h (eqb-false _ _ e))
+of-short c k h = slot-cases (λ (s : Slot). s .bus ≤ 8) c (λ e. let b = bus-alike c (k .2) in omega (arith, b, k .0, k .1)) h
 
 -- both together
 abbrev TimedShort : Core → Type 0

@@ -5,19 +5,20 @@ use Prim.Native.Nat.{ℕ, _+_, _≤_, _<_}
 use mathlib.Core.Path.{_≡_, refl}
 use mathlib.Core.Bool.{true, false}
 use mathlib.Core.List.{List, [], _∷_, _++_}
-use mathlib.Core.Option.{none, some}
+use mathlib.Core.Option.{none}
 use lib.ListN.{length, replicate}
 use Rattle.rules.specs.Bytes.{AreBytes}
-use Rattle.rules.specs.Parts.{withCycle, withLength, withPrescaler, withBurst, withSpeed, withA, withB, withBlock, withControl, withEnabled, withSlot}
+use Rattle.rules.specs.Parts.{withCycle, withLength, withPrescaler, withBurst, withSpeed, withA, withB, withBlock, withControl, withEnabled, inSlot}
 use Rattle.rules.specs.Slots.{newSlot}
 use Rattle.rules.specs.PowerOn.{powerOn, noClocks}
 use Rattle.rules.specs.Validity.{validCore, valid, total}
+use Rattle.rules.specs.Facts.{InRange}
 use Rattle.rules.specs.Clock.{Kind, busClock, cpuClock, clockOf}
 use Rattle.rules.specs.Buffers.{Store, flat}
 use Rattle.rules.specs.World.{System, system, clocked}
-use Rattle.rules.specs.Calls.{Answered, accepted}
+use Rattle.rules.specs.Calls.{Answered, accepted, grant}
 use Rattle.rules.specs.Entries.{Outside, Entry, portWrite, portRead, speedCall, clockGrant, otherGrant, outsideChange, bytesWritten, run, systemAtPowerOn}
-use Rattle.rules.specs.History.{Event, clockNoted, counterZeroed, history, pastAtPowerOn}
+use Rattle.rules.specs.History.{Event, clockNoted, counterZeroed, stillClock, movingClock, history, pastAtPowerOn}
 use Rattle.rules.specs.Accounts.{clocksNoted, clocksAccepted, numbersOf}
 use Rattle.rules.specs.Floor.{allShared, floorOf, cpuFloor}
 use Rattle.rules.specs.declared.Slot.{Slot}
@@ -94,6 +95,10 @@ pub record FloorHolds : Type 1 where
   pub kept :
       {M : Type 0} (σ : Store M) (s : System M) (n : ℕ) → AllShared (s .world .core)
       → AllShared (clocked σ n s .world .core) × (floorOf (clocked σ n s .world .core) ≤ floorOf (s .world .core))
+  -- so a device whose fields lie within their types answers a floor after every grant, refused or not, and no larger one
+  pub granted :
+      {M : Type 0} (σ : Store M) (s : System M) (n : ℕ) → InRange (s .world .core) → (floorAt s ≡ 0 → ⊥)
+      → (floorAt (grant σ s n .system) ≡ 0 → ⊥) × (floorAt (grant σ s n .system) ≤ floorAt s)
   -- of an enabled device with no clock elapsed, one clock fewer has none of the processor; of others a smaller number may do
   pub tight :
       {M : Type 0} (σ : Store M) (s : System M) (n : ℕ) → AllShared (s .world .core)
@@ -190,10 +195,6 @@ pub record TightAt (bus : ℕ) (c : Core) : Type 0 where
   pub fewer : countsAfter bus c ≡ record { bus = bus; held = 0; cpu = 0 }
   pub enough : countsAfter (bus + 1) c ≡ record { bus = bus; held = 0; cpu = 1 }
 
--- the same, but that n clocks of a slot with this bus time and length have elapsed
-abbrev pub inOwnSlot : ℕ → ℕ → ℕ → Core → Core
-inOwnSlot n bus length c = withSlot (record { elapsed = n; bus = bus; length = length; burst = true }) c
-
 -- the same, but continuous
 abbrev pub inContinuous : Core → Core
 inContinuous c = withControl (withBurst false (c .control)) c
@@ -213,17 +214,17 @@ pub record FloorNearest : Type 0 where
   pub not-longer : NoFloor 128 0 (inBurst 0 4 2 2)
   pub continuous : NoFloor 12 84 (inContinuous (inBurst 3 2 1 3))
   -- a slot that runs counts with its own figures: one clock of the largest bus time has elapsed, and the registers' is 4
-  pub running : cpuFloor (inOwnSlot 1 64 96 (inBurst 3 2 1 1)) 0 ≡ 65
-  pub rest : countsAfter 63 (inOwnSlot 1 64 96 (inBurst 3 2 1 1)) ≡ record { bus = 63; held = 0; cpu = 0 }
+  pub running : cpuFloor (inSlot 1 64 96 true (inBurst 3 2 1 1)) 0 ≡ 65
+  pub rest : countsAfter 63 (inSlot 1 64 96 true (inBurst 3 2 1 1)) ≡ record { bus = 63; held = 0; cpu = 0 }
   -- and one that has no wait: no floor, though the processor has clocks of every other slot
-  pub no-wait : NoFloor 67 0 (inOwnSlot 1 64 64 (inBurst 3 2 1 2))
+  pub no-wait : NoFloor 67 0 (inSlot 1 64 64 true (inBurst 3 2 1 2))
   -- the slots behind it count as well: its wait goes on for 28 clocks, and the registers' bus time is the largest
-  pub behind : cpuFloor (inOwnSlot 4 4 32 (inBurst 0 4 3 2)) 0 ≡ 65
-  pub next : countsAfter 92 (inOwnSlot 4 4 32 (inBurst 0 4 3 2)) ≡ record { bus = 64; held = 0; cpu = 28 }
+  pub behind : cpuFloor (inSlot 4 4 32 true (inBurst 0 4 3 2)) 0 ≡ 65
+  pub next : countsAfter 92 (inSlot 4 4 32 true (inBurst 0 4 3 2)) ≡ record { bus = 64; held = 0; cpu = 28 }
   -- and where they have no wait there is no floor, though this one has
-  pub valid : validCore (inOwnSlot 4 4 32 (inBurst 3 2 0 20)) ≡ true
-  pub no-wait-behind : cpuFloor (inOwnSlot 4 4 32 (inBurst 3 2 0 20)) 0 ≡ 0
-  pub next-ones : countsAfter 94 (inOwnSlot 4 4 32 (inBurst 3 2 0 20)) ≡ record { bus = 66; held = 0; cpu = 28 }
+  pub valid : validCore (inSlot 4 4 32 true (inBurst 3 2 0 20)) ≡ true
+  pub no-wait-behind : cpuFloor (inSlot 4 4 32 true (inBurst 3 2 0 20)) 0 ≡ 0
+  pub next-ones : countsAfter 94 (inSlot 4 4 32 true (inBurst 3 2 0 20)) ≡ record { bus = 66; held = 0; cpu = 28 }
 
 -- ---- a list, worked out
 
@@ -241,23 +242,12 @@ zeroLatches = replicate 65536 0
 abbrev pub oneByte : List (Entry blank (Unit {0}))
 oneByte = portWrite 0x0B 0xC1 ∷ portWrite 0x0B 0x50 ∷ portWrite 0x0B 0x20 ∷ portWrite 0x0B 0x01 ∷ portWrite 0x0B 0x87 ∷ []
 
--- a clock of a kind on which nothing moves
-abbrev pub still : Kind → Event
-still k = clockNoted (record { kind = k; move = none; zeroed = none })
-
 -- what is noted of eleven clocks: three of the processor behind the byte's eight
 abbrev pub threeOfCpu : List Event
-threeOfCpu = still cpuClock ∷ still cpuClock ∷ still cpuClock ∷ []
+threeOfCpu = stillClock cpuClock ∷ stillClock cpuClock ∷ stillClock cpuClock ∷ []
 
 abbrev pub eightOnBus : List Event
-eightOnBus =
-    clockNoted
-    (record {
-      kind = busClock;
-      move = some (record { from = record { address = 0; io = false }; to = record { address = 0; io = false }; byte = 0 });
-      zeroed = none;
-    })
-    ∷ replicate 7 (still busClock)
+eightOnBus = movingClock 0 0 0 none ∷ replicate 7 (stillClock busClock)
 
 -- empty latches are of a wrong length
 module _ (wrong : length {A = ℕ} [] ≡ 65536 → ⊥) where

@@ -5,6 +5,7 @@
 use Prim.Native.Nat.{ℕ, zero, suc, _+_}
 use mathlib.Core.Bool.{Bool, false}
 use mathlib.Core.List.{List, [], _∷_}
+use mathlib.Core.Option.{Option, none, some}
 use lib.Dec.{eqb}
 use Rattle.rules.specs.Choice.{pick, any}
 use Rattle.rules.specs.PowerOn.{powerOn}
@@ -13,7 +14,7 @@ use Rattle.rules.specs.Validity.{validCore}
 use Rattle.rules.specs.Speed.{atSpeed}
 use Rattle.rules.specs.Registers.{written}
 use Rattle.rules.specs.Readback.{readByte}
-use Rattle.rules.specs.Clock.{Clock, clockOf}
+use Rattle.rules.specs.Clock.{Kind, busClock, Clock, clockOf}
 use Rattle.rules.specs.Buffers.{Store, Buffers}
 use Rattle.rules.specs.World.{World, Note, stepBy, noteBy}
 use Rattle.rules.specs.Refusals.{accessRefusalIf, speedRefusalIf, grantRefusalIf}
@@ -24,6 +25,20 @@ use Rattle.rules.specs.declared.Core.{Core}
 pub data Event : Type 0 where
   clockNoted : Note → Event
   counterZeroed : ℕ → Event
+
+-- a clock on which nothing moves
+abbrev pub stillClock : Kind → Event
+stillClock k = clockNoted (record { kind = k; move = none; zeroed = none })
+
+-- a bus clock on which a byte moves between two addresses of memory, and what the counter held if it was put to zero
+abbrev pub movingClock : ℕ → ℕ → ℕ → Option ℕ → Event
+movingClock from to byte held =
+    clockNoted
+    (record {
+      kind = busClock;
+      move = some (record { from = record { address = from; io = false }; to = record { address = to; io = false }; byte = byte });
+      zeroed = held;
+    })
 
 -- the history's state: core, memory and latches, the sum of the clocks accepted so far, and the events, the latest first
 pub record Past (M : Type 0) : Type 0 where

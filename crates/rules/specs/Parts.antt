@@ -84,3 +84,7 @@ withEnabled x c = record { a = c .a; b = c .b; block = c .block; control = c .co
 
 abbrev pub withSlot : Slot → Core → Core
 withSlot x c = record { a = c .a; b = c .b; block = c .block; control = c .control; status = c .status; readback = c .readback; pending = c .pending; enabled = c .enabled; slot = x }
+
+-- in a slot of which so many clocks have elapsed, with this bus time and length, burst or not
+abbrev pub inSlot : ℕ → ℕ → ℕ → Bool → Core → Core
+inSlot n bus length burst c = withSlot (record { elapsed = n; bus = bus; length = length; burst = burst }) c

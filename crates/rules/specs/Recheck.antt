@@ -8,7 +8,7 @@ use mathlib.Core.List.{List, [], _∷_}
 use mathlib.Core.Option.{none}
 use lib.Dec.{eqb}
 use Rattle.rules.specs.Choice.{pick, every}
-use Rattle.rules.specs.Parts.{withCounter, withRestart, withBlock, withControl, withEnabled, withSlot}
+use Rattle.rules.specs.Parts.{withCounter, withRestart, withBlock, withControl, withEnabled, withSlot, inSlot}
 use Rattle.rules.specs.Blocks.{finished}
 use Rattle.rules.specs.Slots.{newSlot}
 use Rattle.rules.specs.PowerOn.{powerOn}
@@ -69,7 +69,7 @@ enabledOnEmptyBlock = withEnabled true powerOn
 abbrev pub inWait : ℕ → Bool → Core
 inWait n restart =
     withEnabled true
-    (withSlot (record { elapsed = n; bus = 4; length = 32; burst = true })
+    (inSlot n 4 32 true
     (withBlock (withCounter 1 (powerOn .block)) (withControl (withRestart restart (powerOn .control)) powerOn)))
 
 -- worked out at the edge
