@@ -1,12 +1,14 @@
-//! The zxnDMA for Rust: a safe wrapper of libhost.a. Use it as a crate, whose
-//! build script finds the library; or include this file as a module and pass
-//! rustc the folder of the library by `-L native=FOLDER`. It compiles in
+//! The zxnDMA for Rust: a safe wrapper of libhost.a and libin_place.a. Use it
+//! as a crate, whose build script finds the libraries; or include this file as
+//! a module and pass rustc their folder by `-L native=FOLDER`. It compiles in
 //! editions 2021 and 2024.
 //!
-//! A device is plain data, handed over by value and handed back in the
+//! A device is plain data. Each call comes in two forms, which do the same: in
+//! place, with a device that the host keeps and lends, as an element of its own
+//! table; and by value, where the device is handed over and handed back in the
 //! answer. Any content is a device; calls refuse one that is not valid. A
-//! refused call changes nothing: the device comes back as it came, and no
-//! byte of a buffer is written.
+//! refused call changes nothing: the device stays, or comes back, as it was,
+//! and no byte of a buffer is written.
 //!
 //! Clocks are those of 28 MHz, whatever the processor's speed is. At 28 MHz a
 //! cycle of 4 takes 4 of them; at 14, 7 and 3.5 MHz it takes 2, 4 and 8 times
@@ -254,21 +256,55 @@ pub struct SpeedAnswer {
     pub device: Device,
 }
 
+/// What a port write in place answers.
+#[repr(C)]
+#[derive(Clone, Copy, PartialEq, Eq, Debug)]
+pub struct Written {
+    /// 0 for accepted, else the refusal number: 1, 2 or 3.
+    pub number: u8,
+    /// One of those in `warning`: 0 for none, and for a refused write.
+    pub warning: u8,
+}
+
+/// What a port read in place answers.
+#[repr(C)]
+#[derive(Clone, Copy, PartialEq, Eq, Debug)]
+pub struct Given {
+    /// 0 for accepted, else the refusal number: 1, 2 or 3.
+    pub number: u8,
+    /// The byte read, 0 for a refused read.
+    pub byte: u8,
+}
+
 // Edition 2024 wants the word `unsafe` on a block of foreign functions, and
 // compilers before 1.82 don't know it there. `_` is an `expr` from edition
 // 2024 on, so that the first pattern fits there and the second one elsewhere.
 macro_rules! library {
-    (($edition_2024:expr) $($functions:tt)*) => {
-        #[link(name = "host", kind = "static")]
+    (($edition_2024:expr) $name:literal $($functions:tt)*) => {
+        #[link(name = $name, kind = "static")]
         unsafe extern "C" { $($functions)* }
     };
-    ((_) $($functions:tt)*) => {
-        #[link(name = "host", kind = "static")]
+    ((_) $name:literal $($functions:tt)*) => {
+        #[link(name = $name, kind = "static")]
         extern "C" { $($functions)* }
     };
 }
 
-library! { (_)
+library! { (_) "in_place"
+    fn zxndma_write_in_place(device: *mut Device, port: u16, byte: u8) -> Written;
+    fn zxndma_read_in_place(device: *mut Device, port: u16) -> Given;
+    fn zxndma_grant_in_place(
+        device: *mut Device,
+        memory: *mut u8,
+        memory_length: usize,
+        latches: *mut u8,
+        latches_length: usize,
+        clocks: u32,
+    ) -> u8;
+    fn zxndma_set_speed_in_place(device: *mut Device, code: u8) -> u8;
+}
+
+library! { (_) "host"
     fn zxndma_power_on() -> Device;
     fn zxndma_write(device: Device, port: u16, byte: u8) -> WriteAnswer;
     fn zxndma_read(device: Device, port: u16) -> ReadAnswer;
@@ -293,6 +329,46 @@ impl Device {
     pub fn power_on() -> Device {
         // SAFETY: plain data comes back, and every flag in it is 0 or 1.
         unsafe { zxndma_power_on() }
+    }
+
+    /// A byte is written to the DMA's port: the port number's low byte is 6B
+    /// (zxn mode) or 0B (Zilog mode). An accepted byte with a discouraged value
+    /// has a warning in its answer. Refused with 1, 2 or 3, and then the device
+    /// is as it was.
+    pub fn write_in_place(&mut self, port: u16, byte: u8) -> Written {
+        // SAFETY: the pointer is to a device that is borrowed mutably until the
+        // call is over, and what is left there is one; a Rust bool is 0 or 1.
+        unsafe { zxndma_write_in_place(self, port, byte) }
+    }
+
+    /// A byte is read from the DMA's port. Refused with 1, 2 or 3, and then
+    /// the byte is 0 and the device as it was.
+    pub fn read_in_place(&mut self, port: u16) -> Given {
+        // SAFETY: as for a write in place.
+        unsafe { zxndma_read_in_place(self, port) }
+    }
+
+    /// That many clocks pass, and all of them are used. Answers 0, or with what
+    /// it was refused: 4 or 5 if memory or latches are not `BUFFER_LENGTH`
+    /// bytes, and 1 or 6; then device and buffers are as they were.
+    pub fn grant_in_place(&mut self, memory: &mut [u8], latches: &mut [u8], clocks: u32) -> u8 {
+        let (memory, memory_length) = (memory.as_mut_ptr(), memory.len());
+        let (latches, latches_length) = (latches.as_mut_ptr(), latches.len());
+        // SAFETY: as for a write in place. Each pointer is a slice's, so it is
+        // not null and to that many bytes; device and both slices are borrowed
+        // mutably until the call is over, so nothing else reaches them and they
+        // do not overlap.
+        unsafe {
+            zxndma_grant_in_place(self, memory, memory_length, latches, latches_length, clocks)
+        }
+    }
+
+    /// The processor's speed is set, by its code, at any time, as by
+    /// `set_speed`. Answers 0, or with what it was refused: 7 if the code is
+    /// above 3, and 1; then the device is as it was.
+    pub fn set_speed_in_place(&mut self, code: u8) -> u8 {
+        // SAFETY: as for a write in place.
+        unsafe { zxndma_set_speed_in_place(self, code) }
     }
 
     /// A byte is written to the DMA's port: the port number's low byte is 6B
