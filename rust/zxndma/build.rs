@@ -1,8 +1,9 @@
-//! Finds the proved library libhost.a for the wrapper, or makes it.
+//! Finds the proved libraries libhost.a and libin_place.a for the wrapper, or
+//! makes them.
 //!
 //! A library that is there is taken as it is: proving is not a part of every
 //! build. Where the crates' code has changed since, a warning says so, and
-//! `docs/src/run-examples` makes the library anew.
+//! `docs/src/run-examples` makes the libraries anew.
 
 use std::env;
 use std::fs;
@@ -10,30 +11,48 @@ use std::path::{Path, PathBuf};
 use std::process::{exit, Command};
 use std::time::SystemTime;
 
-const LIBRARY: &str = "libhost.a";
+/// The crates whose libraries are linked: the calls by value, and those in
+/// place.
+const CRATES: [&str; 2] = ["host", "in_place"];
 const FOLDER_VARIABLE: &str = "ZXNDMA_LIB_DIR";
 
-/// The folder that holds the library: the one that the variable names, or the
-/// one that the Rattle kit leaves it in, where the kit may have to make it.
+fn library(of: &str) -> String {
+    format!("lib{of}.a")
+}
+
+/// The folder that holds the libraries: the one that the variable names, or the
+/// one that the Rattle kit leaves them in, where the kit may have to make them.
 fn library_folder(root: &Path) -> Result<PathBuf, String> {
     if let Some(named) = env::var_os(FOLDER_VARIABLE) {
         let folder = PathBuf::from(named);
-        let found = folder.join(LIBRARY).is_file();
-        return if found {
+        let libraries = CRATES.map(library);
+        let missing: Vec<String> =
+            libraries.into_iter().filter(|library| !folder.join(library).is_file()).collect();
+        return if missing.is_empty() {
             Ok(folder)
         } else {
-            Err(format!("{FOLDER_VARIABLE} is {}, and no {LIBRARY} is there", folder.display()))
+            let (place, missing) = (folder.display(), missing.join(" and no "));
+            Err(format!("{FOLDER_VARIABLE} is {place}, and no {missing} is there"))
         };
     }
     let folder = root.join("target").join("staticlib");
-    let library = folder.join(LIBRARY);
+    for name in CRATES {
+        make_if_missing(name, &folder.join(library(name)), root)?;
+    }
+    Ok(folder)
+}
+
+/// Has the kit make a crate's library, if it is not there.
+fn make_if_missing(name: &str, library: &Path, root: &Path) -> Result<(), String> {
     if library.is_file() {
-        return Ok(folder);
+        return Ok(());
     }
     let missing = format!("there is no {}", library.display());
-    match Command::new("rt").args(["staticlib", "host"]).current_dir(root).status() {
-        Ok(status) if status.success() && library.is_file() => Ok(folder),
-        Ok(status) => Err(format!("{missing}, and 'rt staticlib host' did not make it: {status}")),
+    match Command::new("rt").args(["staticlib", name]).current_dir(root).status() {
+        Ok(status) if status.success() && library.is_file() => Ok(()),
+        Ok(status) => {
+            Err(format!("{missing}, and 'rt staticlib {name}' did not make it: {status}"))
+        }
         Err(error) => Err(format!("{missing}, and the Rattle kit (rt) cannot be run: {error}")),
     }
 }
@@ -52,9 +71,9 @@ fn last_change(folder: &Path) -> Option<SystemTime> {
     times.max()
 }
 
-/// Warns if the library that the kit left is older than the code it was made
-/// from.
-fn warn_if_older(library: &Path, root: &Path) {
+/// Warns of each library that the kit left and that is older than the code it
+/// was made from.
+fn warn_if_older(folder: &Path, root: &Path) {
     let crates = root.join("crates");
     let folders = fs::read_dir(&crates).into_iter().flatten();
     let sources: Vec<PathBuf> =
@@ -62,13 +81,15 @@ fn warn_if_older(library: &Path, root: &Path) {
     for source in sources.iter().filter(|source| source.is_dir()) {
         println!("cargo:rerun-if-changed={}", source.display());
     }
-    let made = fs::metadata(library).and_then(|data| data.modified()).ok();
     let changed = sources.iter().filter_map(|source| last_change(source)).max();
-    if made < changed {
-        println!(
-            "cargo:warning={LIBRARY} is older than the code in crates/; \
-             docs/src/run-examples makes it anew"
-        );
+    for library in CRATES.map(library) {
+        let made = fs::metadata(folder.join(&library)).and_then(|data| data.modified()).ok();
+        if made < changed {
+            println!(
+                "cargo:warning={library} is older than the code in crates/; \
+                 docs/src/run-examples makes it anew"
+            );
+        }
     }
 }
 
@@ -80,20 +101,25 @@ fn main() {
     println!("cargo:rerun-if-env-changed={FOLDER_VARIABLE}");
     match library_folder(&root) {
         Ok(folder) => {
-            let library = folder.join(LIBRARY);
-            println!("cargo:rerun-if-changed={}", library.display());
+            for library in CRATES.map(library) {
+                println!("cargo:rerun-if-changed={}", folder.join(library).display());
+            }
             if env::var_os(FOLDER_VARIABLE).is_none() {
-                warn_if_older(&library, &root);
+                warn_if_older(&folder, &root);
             }
             println!("cargo:rustc-link-search=native={}", folder.display());
         }
         Err(reason) => {
-            eprintln!("zxndma: the proved library is missing: {reason}.");
+            let [host, in_place] = CRATES;
+            eprintln!("zxndma: a proved library is missing: {reason}.");
             eprintln!(
-                "Get it by 'rt staticlib host' at the root of the repository, with the Rattle kit;"
+                "Get both by 'rt staticlib {host}' and 'rt staticlib {in_place}' at the root of \
+                 the repository, with the Rattle kit;"
             );
             eprintln!(
-                "or set {FOLDER_VARIABLE} to a folder with a {LIBRARY} that was made elsewhere."
+                "or set {FOLDER_VARIABLE} to a folder with a {} and a {} that were made elsewhere.",
+                library(host),
+                library(in_place)
             );
             exit(1);
         }
