@@ -1,8 +1,11 @@
-/* The zxnDMA, a DMA chip, for C99 and C++11 on x86-64 Linux. Link libhost.a.
+/* The zxnDMA, a DMA chip, for C99 and C++11 on x86-64 Linux. Link libhost.a and libin_place.a, in any order; a program that
+ * makes no call in place links libhost.a alone.
  *
- * A device is plain data that the host owns: copy it, keep it, compare its fields. A call takes it by value and hands it
- * back in its answer. Any content is a device; calls refuse one that is not valid. The bytes between the fields have no
- * meaning, so compare fields and not memory.
+ * A device is plain data that the host owns: copy it, keep it, compare its fields. Write, read, grant and set speed come in
+ * two forms, which do the same: in place, with a pointer to a device that the host keeps, as an element of its own table; and
+ * by value, where the device is handed over and handed back in the answer. Any content is a device; calls refuse one that is
+ * not valid. The bytes between the fields have no meaning and a call in place may change them, so compare fields and not
+ * memory.
  *
  * A flag is a bool, and its byte must be 0 or 1. Assigning to it sees to that. A byte that is copied over a flag, or never
  * set, can hold something else, and no call answers for such a device: set a flag that comes from outside by `byte != 0`.
@@ -13,8 +16,8 @@
  *
  * Numbers in answers: 0 accepted. Refusals, the lowest that applies: 1 the device is not valid; 2 the port number's low
  * byte is neither 6B nor 0B (hex); 3 the device holds the bus; 4 the memory is not 65,536 bytes; 5 the latches are not
- * 65,536 bytes; 6 the clock counts would not fit 64 bits; 7 the speed code is above 3. A refused call changes nothing: the
- * device comes back as it came, and no byte of a buffer is written.
+ * 65,536 bytes; 6 the clock counts would not fit 64 bits; 7 the speed code is above 3. A refused call changes nothing: in
+ * place the device is left as it was, by value it comes back as it came, and no byte of a buffer is written.
  */
 #ifndef ZXNDMA_H
 #define ZXNDMA_H
@@ -135,6 +138,18 @@ typedef struct zxndma_device {
 #define ZXNDMA_WARNING_TIMING 2    /* A or B timing with bits 1-0 of 11: a cycle of 4; use 00, or 01 for 3, 10 for 2 */
 #define ZXNDMA_WARNING_MODE 3      /* WR4 with bits 6-5 of 00 or 11: continuous; use 01, or 10 for burst */
 
+/* What a port write in place answers. */
+typedef struct zxndma_written {
+    uint8_t number;  /* 0 for accepted, else the refusal: 1, 2 or 3 */
+    uint8_t warning; /* one of the warnings above: 0 for none, and for a refused write */
+} zxndma_written;
+
+/* What a port read in place answers. */
+typedef struct zxndma_given {
+    uint8_t number; /* 0 for accepted, else the refusal: 1, 2 or 3 */
+    uint8_t byte;   /* the byte read, 0 for a refused read */
+} zxndma_given;
+
 /* The answer to a port write. */
 typedef struct zxndma_write_answer {
     uint8_t number;       /* 0 for accepted, else the refusal: 1, 2 or 3 */
@@ -163,6 +178,30 @@ typedef struct zxndma_speed_answer {
 
 /* A device as it is when power comes on: its speed is 28 MHz. Never refused. */
 zxndma_device zxndma_power_on(void);
+
+/* ---- In place ----
+ *
+ * The device is the host's own and is changed where it lies; nothing of it is kept after the call. The pointer is not null
+ * and is aligned, to a device that nothing else reaches during the call and that overlaps neither buffer. A refused call
+ * leaves the device as it was. */
+
+/* A byte is written to the DMA's port. The port number's low byte is 6B (zxn mode) or 0B (Zilog mode); the high byte is
+ * free. An accepted byte with a discouraged value has a warning in its answer. */
+zxndma_written zxndma_write_in_place(zxndma_device *device, uint16_t port, uint8_t byte);
+
+/* A byte is read from the DMA's port, 6B or 0B as above. */
+zxndma_given zxndma_read_in_place(zxndma_device *device, uint16_t port);
+
+/* That many clocks pass, and all of them are used. Memory and latches are lent as for zxndma_grant. Answers 0 for accepted,
+ * else the refusal: 1, 4, 5 or 6. */
+uint8_t zxndma_grant_in_place(zxndma_device *device, uint8_t *memory, size_t memory_length, uint8_t *latches,
+                              size_t latches_length, uint32_t clocks);
+
+/* The processor's speed is set, by its code, at any time, as by zxndma_set_speed. Answers 0 for accepted, else the refusal:
+ * 1 or 7. */
+uint8_t zxndma_set_speed_in_place(zxndma_device *device, uint8_t code);
+
+/* ---- By value ---- */
 
 /* A byte is written to the DMA's port. The port number's low byte is 6B (zxn mode) or 0B (Zilog mode); the high byte is
  * free. An accepted byte with a discouraged value has a warning in its answer. */
@@ -250,6 +289,12 @@ ZXNDMA_SIZE(core, 52);
 ZXNDMA_FIELD(device, core, 0, 52);
 ZXNDMA_FIELD(device, clocks, 56, 24);
 ZXNDMA_SIZE(device, 80);
+ZXNDMA_FIELD(written, number, 0, 1);
+ZXNDMA_FIELD(written, warning, 1, 1);
+ZXNDMA_SIZE(written, 2);
+ZXNDMA_FIELD(given, number, 0, 1);
+ZXNDMA_FIELD(given, byte, 1, 1);
+ZXNDMA_SIZE(given, 2);
 ZXNDMA_FIELD(write_answer, number, 0, 1);
 ZXNDMA_FIELD(write_answer, warning, 1, 1);
 ZXNDMA_FIELD(write_answer, device, 8, 80);

@@ -8,7 +8,7 @@
 //! Rattle: the declarations are read, and laid out as `repr(C)` says.
 //! C: the declarations are read, and the offsets and sizes that the header
 //! asserts; the C and C++ compilers check these wherever it is included.
-//! Rust: the compiler is asked, about values that the library gives.
+//! Rust: the compiler is asked, about values that the libraries give.
 //!
 //! Built by `rustc --edition 2021 -O -L native=target/staticlib layout.rs`,
 //! from this folder or with its path; `layout --help` says how it is run.
@@ -27,7 +27,7 @@ use std::mem::{size_of, size_of_val};
 use std::process::ExitCode;
 
 const HELP: &str = "\
-usage: layout HEADER WARNINGS RATTLE...
+usage: layout HEADER WARNINGS PARTS RATTLE...
 Compares the structs of the C header, of the Rattle sources and of the wrapper
 for Rust, and the warnings that each of the three names, and prints how many
 structs, fields and warnings there are, or what differs. In the header and the
@@ -36,8 +36,10 @@ speeds.
 
   HEADER    include/zxndma.h
   WARNINGS  the source with the warnings: crates/parts/src/warning.rt
-  RATTLE    sources with structs, in the order of crates, the device's last:
-            crates/rules/src/lib.rt crates/zxndma/src/lib.rt
+  PARTS     the source with the parts of the device: crates/rules/src/lib.rt
+  RATTLE    the sources of the device and of what calls answer, of which every
+            struct is compared: crates/zxndma/src/lib.rt
+            crates/in_place/src/lib.rt
 
 Exit status: 0 the same; 1 a difference, or a file can't be read or understood;
 2 bad arguments.
@@ -146,22 +148,23 @@ fn rattle_type(kind: &str) -> String {
 
 // ---- Rattle --------------------------------------------------------------
 
-/// Every struct that the last source declares, and what they are made of.
-fn rattle_layout(sources: &[String]) -> Result<Layout, String> {
+/// Every struct that the sources declare, and those of the parts that they are
+/// made of.
+fn rattle_layout(parts: &str, sources: &[String]) -> Result<Layout, String> {
     let mut all = Layout::new();
     let mut aligns = BTreeMap::new();
     let mut wanted = Vec::new();
-    for source in sources {
+    let compared = sources.iter().map(|source| (source.as_str(), true));
+    for (source, is_compared) in [(parts, false)].into_iter().chain(compared) {
         let of_c = source.matches("#[repr(C)]\npub struct ").count();
         if source.matches("pub struct ").count() != of_c {
             return Err("a struct in Rattle is not repr(C)".into());
         }
-        wanted.clear();
-        for declared in declarations(source, &RATTLE)? {
-            let (laid, align) = lay_out(&declared.1, &all, &aligns)?;
-            wanted.push(declared.0.clone());
-            aligns.insert(declared.0.clone(), align);
-            all.insert(declared.0, laid);
+        for (name, fields) in declarations(source, &RATTLE)? {
+            let (laid, align) = lay_out(&fields, &all, &aligns)?;
+            wanted.extend(is_compared.then(|| name.clone()));
+            aligns.insert(name.clone(), align);
+            all.insert(name, laid);
         }
     }
     let mut layout = Layout::new();
@@ -258,7 +261,7 @@ fn field_of<S, F>(name: &str, whole: &S, part: &F) -> Field {
 
 fn rust_layout() -> Layout {
     let mut layout = Layout::new();
-    let device = zxndma::Device::power_on();
+    let mut device = zxndma::Device::power_on();
     let core = device.core;
     struct_of!(layout, core.a, Port { address, pointer, io, step, cycle });
     struct_of!(layout, core.block, Block { length, counter, zilog });
@@ -273,6 +276,8 @@ fn rust_layout() -> Layout {
         Core { a, b, block, control, status, readback, pending, enabled, slot }
     );
     struct_of!(layout, device, Device { core, clocks });
+    struct_of!(layout, device.write_in_place(0, 0), Written { number, warning });
+    struct_of!(layout, device.read_in_place(0), Given { number, byte });
     struct_of!(layout, device.write(0, 0), WriteAnswer { number, warning, device });
     struct_of!(layout, device.read(0), ReadAnswer { number, byte, device });
     struct_of!(layout, device.grant(&mut [], &mut [], 0), GrantAnswer { number, device });
@@ -396,9 +401,9 @@ fn differences(rattle: &Layout, language: &str, other: &Layout) -> Vec<String> {
 }
 
 /// The line to print, if all is the same, or those that say what is not.
-fn compare(header: &str, warnings: &str, sources: &[&str]) -> Result<String, String> {
+fn compare(header: &str, warnings: &str, parts: &str, sources: &[&str]) -> Result<String, String> {
     let texts: Result<Vec<String>, String> = sources.iter().map(|path| text(path)).collect();
-    let rattle = rattle_layout(&texts?)?;
+    let rattle = rattle_layout(&text(parts)?, &texts?)?;
     let header = text(header)?;
     let mut lines = differences(&rattle, "C", &c_layout(&header)?);
     lines.extend(differences(&rattle, "Rust", &rust_layout()));
@@ -425,12 +430,13 @@ fn text(path: &str) -> Result<String, String> {
 
 fn main() -> ExitCode {
     program::main("layout", HELP, |words| match words {
-        [header, warnings, sources @ ..] if !sources.is_empty() => {
-            println!("layout: {}", compare(header, warnings, sources).map_err(|lines| (1, lines))?);
+        [header, warnings, parts, sources @ ..] if !sources.is_empty() => {
+            let same = compare(header, warnings, parts, sources).map_err(|lines| (1, lines))?;
+            println!("layout: {same}");
             Ok(())
         }
         _ => Err(program::bad_usage(
-            "a header, the source of the warnings and Rattle sources are needed".into(),
+            "a header, the sources of warnings and of parts, and Rattle sources are needed".into(),
         )),
     })
 }
