@@ -2,18 +2,22 @@
 //!
 //! On devices of any content, with any port, byte, clocks, buffers and speed
 //! code, on sessions, and on lists of calls from power on that set the speed as
-//! well. Every answer is compared whole: number, byte, warning, each field of the
-//! device, and after a grant both buffers, in a session after every record; and so
-//! is the floor under the processor's time, of each device before a call. The
+//! well. Each call of the library is made by value and in place, where the device
+//! stands in a host's table between others, and in a list stays there from the
+//! first call to the last. Every answer is compared whole: number, byte, warning,
+//! each field of the device, and after a grant both buffers, in a session after
+//! every record; and so is the floor under the processor's time, of each device
+//! before a call. A call in place must leave the table's other devices alone. The
 //! sessions of a seed are those that `compare.rs` makes of it. What the grants, the
-//! writes in burst waits and the speed calls came to is counted, and so are the
-//! floors, the warnings and the numbers of pending parameters that came. It also
-//! tries all 65,536 of these, every byte with those that are valid, reads by all
-//! masks from all positions, all codes of the speed, a slot's figures about all that
-//! are valid, and the floors of all speeds and cycles with five prescalers and with
-//! running slots of every bus time, and sees that the second program stops where a
-//! slot would begin with its block finished. Floors are held against clocks that the second program takes
-//! singly, also in lists of grants with refused calls between them.
+//! writes in burst waits, the speed calls and the calls in place came to is counted,
+//! and so are the floors, the warnings and the numbers of pending parameters that
+//! came. It also tries all 65,536 of these, every byte with those that are valid,
+//! reads by all masks from all positions, all codes of the speed, a slot's figures
+//! about all that are valid, and the floors of all speeds and cycles with five
+//! prescalers and with running slots of every bus time, and sees that the second
+//! program stops where a slot would begin with its block finished. Floors are held
+//! against clocks that the second program takes singly, also in lists of grants
+//! with refused calls between them.
 //!
 //! Built by `rustc --edition 2021 -O -L native=target/staticlib states.rs`,
 //! from this folder or with its path; `states --help` says how it is run.
@@ -28,6 +32,8 @@ mod generate;
 mod grants;
 #[path = "numbers.rs"]
 mod numbers;
+#[path = "places.rs"]
+mod places;
 #[path = "program.rs"]
 mod program;
 #[path = "questions.rs"]
@@ -40,6 +46,8 @@ mod speeds;
 mod stops;
 #[path = "stored.rs"]
 mod stored;
+#[path = "table.rs"]
+mod table;
 #[path = "waits.rs"]
 mod waits;
 #[path = "warnings.rs"]
@@ -51,11 +59,13 @@ use floors::{Floors, Run};
 use generate::Rng;
 use grants::{Grant, Grants};
 use numbers::Numbers;
+use places::{Made, Places};
 use reference::model::{self, Pending, SIZE};
 use reference::session;
 use speeds::Speeds;
 use std::collections::BTreeSet;
 use std::process::ExitCode;
+use table::Table;
 use waits::Waits;
 use warnings::Warnings;
 use zxndma::{Block, Clocks, Control, Core, Device, Port, Readback, Slot, Status};
@@ -69,11 +79,14 @@ const HELP: &str = "\
 usage: states [--calls N] [--sessions N] [--lists N] [--seed N]... [FILE.hex]...
 Compares the linked library with the second program, for each seed (1) by N calls
 on made devices (1000000), N made sessions (5000) and N lists of calls from power
-on that set the speed as well (2000), and on the stored sessions. Before each call
-both answer the device's floor under the processor's time. Prints how often each
-number was answered, what the grants, the writes in burst waits and the speed calls
-came to, which floors, which warnings and which bytes close to one came, and how
-many numbers of pending parameters.
+on that set the speed as well (2000), and on the stored sessions. Each write, read,
+speed call and grant of the library is made by value and in place: there the device
+is the first, the middle or the last one of a table, and stays there through a whole
+session or list; its neighbours must not change. Before each call both answer the
+device's floor under the processor's time. Prints how often each number was
+answered, what the grants, the writes in burst waits, the speed calls and the calls
+in place came to, which floors, which warnings and which bytes close to one came,
+and how many numbers of pending parameters.
 
 For each seed it tries, on devices that are valid otherwise:
 - all 65536 numbers of pending parameters: a call must answer 1 exactly where the
@@ -98,15 +111,16 @@ For each seed it tries, on devices that are valid otherwise:
 Sees, too, that the calls refuse a device whose slot would begin with the block
 finished, and that a clock of it stops the second program.
 
-Exit status: 0 no difference; 1 a difference, or clocks don't keep to a floor, or
-the second program stops in a call or doesn't where it should, which is shown, or a
-number that a call can answer never came, or some case of the floors that are tried,
-or, with as many calls, sessions or lists as these, some case of a floor, of a long
-grant, of a write in a wait, of a warning or of a speed call, or a number of pending
-parameters, or a FILE can't be read; 2 bad arguments.
+Exit status: 0 no difference; 1 a difference, or a call in place changes another
+device, or clocks don't keep to a floor, or the second program stops in a call or
+doesn't where it should, which is shown, or a number that a call can answer never
+came, or some case of the floors that are tried, or, with as many calls, sessions or
+lists as these, some case of a floor, of a long grant, of a write in a wait, of a
+warning, of a speed call or of a call in place, or a number of pending parameters,
+or a FILE can't be read; 2 bad arguments.
 ";
 
-// ---- Both sides ----------------------------------------------------------
+// ---- All sides -----------------------------------------------------------
 
 /// The model's device with the content of the library's. The patterns name
 /// every field: none can be forgotten.
@@ -235,6 +249,11 @@ impl Buffers {
         self.latches.copy_from_slice(&other.latches);
     }
 
+    /// What a call is lent of them.
+    fn parts(&mut self, memory: usize, latches: usize) -> (&mut [u8], &mut [u8]) {
+        (&mut self.memory[..memory], &mut self.latches[..latches])
+    }
+
     /// A session's memory record.
     fn store(&mut self, address: u16, bytes: &[u8]) {
         for (k, &byte) in bytes.iter().enumerate() {
@@ -243,34 +262,144 @@ impl Buffers {
     }
 }
 
-/// The library's answer, and its device as it came.
-fn by_library(device: Device, call: Call, lent: &mut Buffers) -> (Answer, Device) {
-    // Only a write answers one.
-    let mut warning = zxndma::warning::NONE;
-    let (number, byte, device) = match call {
-        Call::PowerOn => (0, 0, Device::power_on()),
+/// The buffers of each side: the library's calls by value, its calls in place
+/// and the second program. As long as they agree, all hold the same bytes.
+#[derive(Clone)]
+struct Lent {
+    by_value: Buffers,
+    in_place: Buffers,
+    model: Buffers,
+}
+
+/// Buffers are compared in pieces that stay in the processor's cache, so that each
+/// is fetched once for all sides.
+const PIECE: usize = 4_096;
+
+impl Lent {
+    fn zero() -> Lent {
+        Lent { by_value: Buffers::zero(), in_place: Buffers::zero(), model: Buffers::zero() }
+    }
+
+    fn fill(&mut self, rng: &mut Rng) {
+        self.by_value.fill(rng);
+        self.in_place.copy(&self.by_value);
+        self.model.copy(&self.by_value);
+    }
+
+    fn store(&mut self, address: u16, bytes: &[u8]) {
+        for side in [&mut self.by_value, &mut self.in_place, &mut self.model] {
+            side.store(address, bytes);
+        }
+    }
+
+    /// So many bytes of memory and latches, which are whole pieces, are the same on
+    /// each side.
+    fn agree(&self, length: usize) -> bool {
+        (0..length).step_by(PIECE).all(|from| {
+            let piece = from..from + PIECE;
+            let [by_value, in_place, model] = [&self.by_value, &self.in_place, &self.model]
+                .map(|side| (&side.memory[piece.clone()], &side.latches[piece.clone()]));
+            by_value == model && in_place == model
+        })
+    }
+
+    /// How many bytes differ, and the first of them, as lines.
+    fn difference(&self) -> String {
+        let Lent { by_value, in_place, model } = self;
+        let memory = [&by_value.memory, &in_place.memory, &model.memory];
+        let latches = [&by_value.latches, &in_place.latches, &model.latches];
+        let mut lines = String::new();
+        for (name, [by_value, in_place, model]) in [("memory", memory), ("latches", latches)] {
+            let differ = |k: &usize| by_value[*k] != model[*k] || in_place[*k] != model[*k];
+            let differ: Vec<usize> = (0..LONGEST).filter(differ).collect();
+            lines.push_str(&format!("{}: {} bytes differ\n", name, differ.len()));
+            for &k in differ.iter().take(8) {
+                lines.push_str(&format!(
+                    "  at {:04X}: by value {:02X}, in place {:02X}, model {:02X}\n",
+                    k, by_value[k], in_place[k], model[k]
+                ));
+            }
+        }
+        lines
+    }
+
+    /// Each side has exactly these bytes.
+    fn stay(&self, bytes: &Buffers) -> Result<(), String> {
+        let sides = [&self.by_value, &self.in_place, &self.model];
+        if sides.iter().all(|side| *side == bytes) {
+            return Ok(());
+        }
+        Err(format!("memory or latches have changed\n{}", self.difference()))
+    }
+}
+
+/// What a call answers beside the device: number, byte and warning.
+type Said = (u8, u8, u8);
+
+/// The library's call by value: the device that comes back takes the place of
+/// the one that was handed over.
+fn by_value(device: &mut Device, call: Call, lent: &mut Buffers) -> Said {
+    match call {
+        Call::PowerOn => {
+            *device = Device::power_on();
+            (0, 0, zxndma::warning::NONE)
+        }
         Call::Write { port, byte } => {
             let written = device.write(port, byte);
-            warning = written.warning;
-            (written.number, 0, written.device)
+            *device = written.device;
+            (written.number, 0, written.warning)
         }
         Call::Read { port } => {
             let given = device.read(port);
-            (given.number, given.byte, given.device)
+            *device = given.device;
+            (given.number, given.byte, zxndma::warning::NONE)
         }
         Call::Grant { memory, latches, clocks } => {
-            let granted =
-                device.grant(&mut lent.memory[..memory], &mut lent.latches[..latches], clocks);
-            (granted.number, 0, granted.device)
+            let (memory, latches) = lent.parts(memory, latches);
+            let granted = device.grant(memory, latches, clocks);
+            *device = granted.device;
+            (granted.number, 0, zxndma::warning::NONE)
         }
         Call::SetSpeed { code } => {
             let set = device.set_speed(code);
-            (set.number, 0, set.device)
+            *device = set.device;
+            (set.number, 0, zxndma::warning::NONE)
         }
-        Call::Valid => (u8::from(device.is_valid()), 0, device),
-    };
+        Call::Valid => (u8::from(device.is_valid()), 0, zxndma::warning::NONE),
+    }
+}
+
+/// The library's call in place.
+fn in_place(device: &mut Device, call: Call, lent: &mut Buffers) -> Said {
+    match call {
+        Call::Write { port, byte } => {
+            let written = device.write_in_place(port, byte);
+            (written.number, 0, written.warning)
+        }
+        Call::Read { port } => {
+            let given = device.read_in_place(port);
+            (given.number, given.byte, zxndma::warning::NONE)
+        }
+        Call::Grant { memory, latches, clocks } => {
+            let (memory, latches) = lent.parts(memory, latches);
+            (device.grant_in_place(memory, latches, clocks), 0, zxndma::warning::NONE)
+        }
+        Call::SetSpeed { code } => (device.set_speed_in_place(code), 0, zxndma::warning::NONE),
+        // They have no such form.
+        Call::PowerOn | Call::Valid => by_value(device, call, lent),
+    }
+}
+
+/// The whole answer of the library's call in one of its forms.
+fn by_library(
+    form: fn(&mut Device, Call, &mut Buffers) -> Said,
+    device: &mut Device,
+    call: Call,
+    lent: &mut Buffers,
+) -> Answer {
+    let (number, byte, warning) = form(device, call, lent);
     let pending = device.core.pending;
-    (Answer { number, byte, warning, device: model_of(device), pending }, device)
+    Answer { number, byte, warning, device: model_of(*device), pending }
 }
 
 fn by_model(device: Device, call: Call, lent: &mut Buffers) -> Answer {
@@ -288,7 +417,7 @@ fn by_model(device: Device, call: Call, lent: &mut Buffers) -> Answer {
         }
         Call::Read { port } => model::read(&mut device, port),
         Call::Grant { memory, latches, clocks } => {
-            let (memory, latches) = (&mut lent.memory[..memory], &mut lent.latches[..latches]);
+            let (memory, latches) = lent.parts(memory, latches);
             (model::grant(&mut device, memory, latches, clocks), 0)
         }
         Call::SetSpeed { code } => (model::set_speed(&mut device, code), 0),
@@ -358,8 +487,11 @@ impl Counts {
 }
 
 struct Bench {
-    library: Buffers,
-    model: Buffers,
+    lent: Lent,
+    /// Where the devices of calls in place stand.
+    table: Table,
+    /// For the table's other devices and its places.
+    rng: Rng,
     counts: Counts,
     /// What the accepted grants came to.
     grants: Grants,
@@ -374,13 +506,17 @@ struct Bench {
     speeds: Speeds,
     /// Of each device before a call, and of clocks that were taken singly.
     floors: Floors,
+    /// What the calls in place came to.
+    places: Places,
 }
 
 impl Bench {
     fn new() -> Bench {
+        let mut rng = Rng::new(0);
         Bench {
-            library: Buffers::zero(),
-            model: Buffers::zero(),
+            lent: Lent::zero(),
+            table: made_table(&mut rng),
+            rng,
             counts: Counts::default(),
             grants: Grants::of_sessions(),
             waits: Waits::new(),
@@ -388,6 +524,7 @@ impl Bench {
             numbers: Numbers::new(),
             speeds: Speeds::of_lists(),
             floors: Floors::of_sessions(),
+            places: Places::of_sessions(),
         }
     }
 
@@ -397,49 +534,42 @@ impl Bench {
         (self.waits, self.numbers) = (Waits::new(), Numbers::new());
     }
 
-    fn clear(&mut self) {
-        self.library = Buffers::zero();
-        self.model = Buffers::zero();
-    }
-
     fn fill(&mut self, rng: &mut Rng) {
-        self.library.fill(rng);
-        self.model.copy(&self.library);
+        self.lent.fill(rng);
+        self.table = made_table(&mut self.rng);
     }
 
-    /// Both sides lend these bytes.
-    fn lend(&mut self, bytes: &Buffers) {
-        self.library.copy(bytes);
-        self.model.copy(bytes);
-    }
-
-    fn store(&mut self, address: u16, bytes: &[u8]) {
-        self.library.store(address, bytes);
-        self.model.store(address, bytes);
+    /// Begins a list of calls, with zeroes in the buffers: power comes on. Gives
+    /// the device, which stands in a table where it can stay.
+    fn begin_list(&mut self) -> Result<Device, String> {
+        self.lent = Lent::zero();
+        self.table = made_table(&mut self.rng);
+        Ok(self.call(Device::power_on(), Call::PowerOn)?.1)
     }
 
     /// Memory and latches of a session agree, whatever its last record was.
     fn same_buffers(&self) -> Result<(), String> {
-        let same = self.library.memory[..SIZE] == self.model.memory[..SIZE]
-            && self.library.latches[..SIZE] == self.model.latches[..SIZE];
-        same.then_some(()).ok_or_else(|| "memory or latches differ after a record".to_string())
+        if self.lent.agree(SIZE) {
+            return Ok(());
+        }
+        Err(format!("after a record memory or latches differ\n{}", self.lent.difference()))
     }
 
-    /// Has both sides answer. Gives the number and the device afterwards, or
+    /// Has all sides answer. Gives the number and the device afterwards, or
     /// the whole case if they differ or the second program stops.
     fn call(&mut self, device: Device, call: Call) -> Result<(u8, Device), String> {
         let (answer, after) = self.answer(device, call)?;
-        if matches!(call, Call::Grant { .. }) && self.library != self.model {
-            return Err(self.difference(device, call, &answer, &answer));
+        if matches!(call, Call::Grant { .. }) && !self.lent.agree(LONGEST) {
+            return Err(self.difference(device, call, [&answer; 3]));
         }
         Ok((answer.number, after))
     }
 
-    /// As `call`, but for the buffers: these are not compared. Gives what both
+    /// As `call`, but for the buffers: these are not compared. Gives what all
     /// answer, and the library's device.
     fn answer(&mut self, device: Device, call: Call) -> Result<(Answer, Device), String> {
         self.floor(device)?;
-        let (model, after) = self.both(device, call)?;
+        let (model, after) = self.compared(device, call)?;
         self.counts.of(call)[usize::from(model.number)] += 1;
         let before = model_of(device);
         if let Call::Write { port, byte } = call {
@@ -455,24 +585,44 @@ impl Bench {
         } else if matches!(before.pending, Pending::Stray(_)) {
             self.numbers.count(&before.pending);
         }
-        if model.number == 0 || matches!(call, Call::SetSpeed { .. }) {
-            if let Some(call) = call.about_speed() {
+        if let Some(call) = call.about_speed() {
+            if model.number == 0 || matches!(call, speeds::Call::SetSpeed { .. }) {
                 self.speeds.count(&before, call, model.number, &model.device);
             }
+            self.count_in_place(&before, call, &model);
         }
         Ok((model, after))
     }
 
+    /// Counts a call that was made in place, too.
+    fn count_in_place(&mut self, before: &model::Device, call: speeds::Call, answer: &Answer) {
+        let Answer { number, byte, warning, device: after, .. } = *answer;
+        let (before, place, calls) = (*before, self.table.place(), self.table.calls());
+        self.places.count(&Made { call, number, byte, warning, before, after, place, calls });
+    }
+
     /// As `answer`, but nothing is counted.
-    fn both(&mut self, device: Device, call: Call) -> Result<(Answer, Device), String> {
-        let (library, after) = by_library(device, call, &mut self.library);
-        let model = stops::caught(|| by_model(device, call, &mut self.model)).map_err(|text| {
-            format!("{:?}\nbefore: {:?}\nthe second program stops: {}", call, device, text)
-        })?;
-        if library != model {
-            return Err(self.difference(device, call, &library, &model));
+    fn compared(&mut self, device: Device, call: Call) -> Result<(Answer, Device), String> {
+        let ([by_value, in_place], after) = self.forms(device, call)?;
+        let model =
+            stops::caught(|| by_model(device, call, &mut self.lent.model)).map_err(|text| {
+                format!("{:?}\nbefore: {:?}\nthe second program stops: {}", call, device, text)
+            })?;
+        if by_value != model || in_place != model {
+            return Err(self.difference(device, call, [&by_value, &in_place, &model]));
         }
         Ok((model, after))
+    }
+
+    /// The library's answers by value and in place, and the device that comes by
+    /// value. The table's other devices must stay as they are.
+    fn forms(&mut self, device: Device, call: Call) -> Result<([Answer; 2], Device), String> {
+        let mut after = device;
+        let by_value = by_library(by_value, &mut after, call, &mut self.lent.by_value);
+        let standing = self.table.lend(device);
+        let in_place = by_library(in_place, standing, call, &mut self.lent.in_place);
+        self.table.others_stay().map_err(|text| format!("{:?} in place: {}", call, text))?;
+        Ok(([by_value, in_place], after))
     }
 
     /// Has both sides answer a device's floor. Gives it, or the case if they
@@ -498,41 +648,31 @@ impl Bench {
         clocks: u32,
     ) -> Result<Device, String> {
         let grant = Call::Grant { memory: SIZE, latches: SIZE, clocks };
-        let (library, after) = by_library(device, grant, &mut self.library);
+        let ([by_value, in_place], after) = self.forms(device, grant)?;
         self.take(run, clocks)?;
-        if library.number != 0 || library.device != *run.device() {
-            let case = format!("{:?}, its clocks taken singly\nbefore:  {:?}", grant, device);
-            return Err(format!("{}\nlibrary: {:?}\nmodel:   {:?}", case, library, run.device()));
+        let accepted = by_value.number == 0 && by_value.device == *run.device();
+        if !accepted || in_place != by_value {
+            let case = format!("{:?}, its clocks taken singly\nbefore:   {:?}", grant, device);
+            let forms = format!("by value: {:?}\nin place: {:?}", by_value, in_place);
+            return Err(format!("{}\n{}\nmodel:    {:?}", case, forms, run.device()));
         }
         Ok(after)
     }
 
     /// The second program alone takes clocks singly.
     fn take(&mut self, run: &mut Run, clocks: u32) -> Result<(), String> {
-        let Buffers { memory, latches } = &mut self.model;
+        let Buffers { memory, latches } = &mut self.lent.model;
         stops::caught(|| run.take(memory, latches, clocks))
             .map_err(|text| format!("{:?}\nthe second program stops: {}", run.device(), text))
     }
 
-    fn difference(&self, device: Device, call: Call, library: &Answer, model: &Answer) -> String {
-        let mut lines = format!(
-            "{:?}\nbefore:  {:?}\nlibrary: {:?}\nmodel:   {:?}\n",
-            call, device, library, model
-        );
-        for (name, ours, theirs) in [
-            ("memory", &self.library.memory, &self.model.memory),
-            ("latches", &self.library.latches, &self.model.latches),
-        ] {
-            let differ: Vec<usize> = (0..LONGEST).filter(|&k| ours[k] != theirs[k]).collect();
-            lines.push_str(&format!("{}: {} bytes differ\n", name, differ.len()));
-            for &k in differ.iter().take(8) {
-                lines.push_str(&format!(
-                    "  at {:04X}: library {:02X}, model {:02X}\n",
-                    k, ours[k], theirs[k]
-                ));
-            }
+    /// The case, with the answers by value, in place and of the second program.
+    fn difference(&self, device: Device, call: Call, answers: [&Answer; 3]) -> String {
+        let mut lines = format!("{:?}\nbefore:   {:?}\n", call, device);
+        for (side, answer) in ["by value", "in place", "model"].iter().zip(answers) {
+            lines.push_str(&format!("{:9} {:?}\n", format!("{}:", side), answer));
         }
-        lines
+        lines + &self.lent.difference()
     }
 }
 
@@ -638,6 +778,12 @@ fn any_device(rng: &mut Rng) -> Device {
         set_field(rng, &mut device, field);
     }
     device
+}
+
+/// A host's table of devices with any content.
+fn made_table(rng: &mut Rng) -> Table {
+    let place = rng.below(table::PLACES.len() as u32) as usize;
+    Table::of([(); table::PLACES.len() + 2].map(|()| any_device(rng)), place)
 }
 
 fn valid_port(rng: &mut Rng) -> Port {
@@ -1178,16 +1324,15 @@ fn records(session: &[u8]) -> impl Iterator<Item = Record<'_>> {
 
 /// Runs a session's records.
 fn run_session(bench: &mut Bench, session: &[u8]) -> Result<(), String> {
-    bench.clear();
-    let (_, mut device) = bench.call(Device::power_on(), Call::PowerOn)?;
+    let mut device = bench.begin_list()?;
     for record in records(session) {
         match record {
             Record::Call(call) => device = bench.call(device, call)?.1,
-            Record::Memory { address, bytes } => bench.store(address, bytes),
+            Record::Memory { address, bytes } => bench.lent.store(address, bytes),
         }
         bench.same_buffers()?;
     }
-    Ok(())
+    bench.table.device_stayed()
 }
 
 fn made_sessions(bench: &mut Bench, seed: u64, sessions: u64) -> Result<(), String> {
@@ -1238,8 +1383,7 @@ fn run_list(
     branches: &mut Rng,
     session: &[u8],
 ) -> Result<(), String> {
-    bench.clear();
-    let (_, mut device) = bench.call(Device::power_on(), Call::PowerOn)?;
+    let mut device = bench.begin_list()?;
     let seldom = rng.pick(&[2, 5, 20, 100]);
     for record in records(session).take(RECORDS_OF_A_LIST) {
         while rng.chance(1, seldom) {
@@ -1247,16 +1391,16 @@ fn run_list(
         }
         match record {
             Record::Call(call) => device = bench.call(device, slowed(rng, device, call))?.1,
-            Record::Memory { address, bytes } => bench.store(address, bytes),
+            Record::Memory { address, bytes } => bench.lent.store(address, bytes),
         }
         bench.same_buffers()?;
         if branches.chance(1, RECORDS_OF_A_BRANCH) && device.cpu_floor() > 0 {
-            let lent = bench.library.clone();
+            let before = (bench.lent.clone(), bench.table.clone());
             run_under_floor(bench, branches, device)?;
-            bench.lend(&lent);
+            (bench.lent, bench.table) = before;
         }
     }
-    Ok(())
+    bench.table.device_stayed()
 }
 
 /// Other sessions than those of the seed.
@@ -1319,7 +1463,7 @@ fn clocks_under_floor(rng: &mut Rng, device: &model::Device, floor: u32) -> u32 
 
 /// A call that must be refused and change nothing.
 fn refuse(bench: &mut Bench, run: &Run, device: Device, call: Call) -> Result<(), String> {
-    let (answer, after) = bench.both(device, call)?;
+    let (answer, after) = bench.compared(device, call)?;
     if answer.number == 0 || after != device {
         return Err(format!("{:?} of {:?} gives {:?}", call, device, answer));
     }
@@ -1341,7 +1485,7 @@ fn run_under_floor(bench: &mut Bench, rng: &mut Rng, start: Device) -> Result<()
             0 => {
                 let (address, count) = (rng.word(), rng.between(1, 255));
                 bench.floors.count_entry(&run, None, 0);
-                bench.store(address, &rng.bytes(count));
+                bench.lent.store(address, &rng.bytes(count));
             }
             1..=3 => refuse(bench, &run, device, refused_call(rng, run.device()))?,
             _ if room(run.device()) < u128::from(clocks) => refuse(bench, &run, device, grant)?,
@@ -1446,7 +1590,7 @@ fn every_number(bench: &mut Bench, seed: u64) -> Result<(), String> {
     let of_sequences = numbers_of_sequences()?;
     let mut refused = 0;
     bench.fill(&mut rng);
-    let filled = bench.library.clone();
+    let filled = bench.lent.by_value.clone();
     for number in 0..=u16::MAX {
         let mut device = valid_device(&mut rng);
         device.core.pending = number;
@@ -1467,9 +1611,8 @@ fn every_number(bench: &mut Bench, seed: u64) -> Result<(), String> {
         }
         refused += u32::from(!stands);
     }
-    if bench.library != filled || bench.model != filled {
-        return Err(format!("seed {}, pending parameters: memory or latches have changed", seed));
-    }
+    let place = |case| format!("seed {}, pending parameters: {}", seed, case);
+    bench.lent.stay(&filled).map_err(place)?;
     let place = |case| format!("seed {}, pending parameters and bytes: {}", seed, case);
     let writes = every_byte(bench, &mut rng, &of_sequences).map_err(place)?;
     println!(
@@ -1810,7 +1953,7 @@ fn finished_device(rng: &mut Rng) -> Device {
 
 /// What the second program says if a clock of such a device takes place.
 fn said_by_clock(bench: &mut Bench, device: &model::Device) -> Result<(), String> {
-    let (mut device, lent) = (*device, &mut bench.model);
+    let (mut device, lent) = (*device, &mut bench.lent.model);
     let clock = || model::take_clocks(&mut device, &mut lent.memory, &mut lent.latches, 1);
     stops::silenced(|| stops::caught(clock))
 }
@@ -1825,7 +1968,7 @@ fn finished_devices(bench: &mut Bench, seed: u64) -> Result<(), String> {
     let mut empty = Device::power_on();
     empty.core.enabled = true;
     bench.fill(&mut rng);
-    let filled = bench.library.clone();
+    let filled = bench.lent.by_value.clone();
     for number in 0..FINISHED_DEVICES {
         // First the plainest one: enabled at power on, with no byte to move.
         let device = if number == 0 { empty } else { finished_device(&mut rng) };
@@ -1852,9 +1995,8 @@ fn finished_devices(bench: &mut Bench, seed: u64) -> Result<(), String> {
             }
         }
     }
-    if bench.library != filled || bench.model != filled {
-        return Err(format!("seed {}, finished devices: memory or latches have changed", seed));
-    }
+    let place = |case| format!("seed {}, finished devices: {}", seed, case);
+    bench.lent.stay(&filled).map_err(place)?;
     println!("states: seed {}: {} devices with a finished block", seed, FINISHED_DEVICES);
     Ok(())
 }
@@ -1925,6 +2067,12 @@ fn floors_counted(of: &str, bench: &Bench, enough: bool) -> Result<(), String> {
     none_missing("floor", of, bench.floors.missing(), enough)
 }
 
+/// The same of the calls in place.
+fn places_counted(of: &str, bench: &Bench, enough: bool) -> Result<(), String> {
+    println!("{}", bench.places.summary(&format!("states: in place, {}", of)));
+    none_missing("call in place", of, bench.places.missing(), enough)
+}
+
 fn none_missing(what: &str, of: &str, missing: Option<String>, enough: bool) -> Result<(), String> {
     match missing {
         Some(missing) if enough => Err(format!("no {} of {}: {}", what, of, missing)),
@@ -1949,7 +2097,7 @@ fn compare(options: &Options) -> Result<String, String> {
         lists_under_floor(&mut bench, seed)?;
     }
     bench.count_anew(Grants::of_devices(), Warnings::of_devices(), Speeds::of_devices());
-    bench.floors = Floors::of_devices();
+    (bench.floors, bench.places) = (Floors::of_devices(), Places::of_devices());
     for &seed in seeds {
         println!("states: seed {}: {} calls", seed, calls);
         made_calls(&mut bench, seed, *calls)?;
@@ -1957,23 +2105,26 @@ fn compare(options: &Options) -> Result<String, String> {
     counted("devices", &bench, *calls >= CALLS)?;
     speeds_counted("devices", &bench, *calls >= CALLS)?;
     floors_counted("devices", &bench, *calls >= CALLS)?;
+    places_counted("devices", &bench, *calls >= CALLS)?;
     bench.count_anew(Grants::of_sessions(), Warnings::of_sessions(), Speeds::of_lists());
-    bench.floors = Floors::of_lists();
+    (bench.floors, bench.places) = (Floors::of_lists(), Places::of_lists());
     for &seed in seeds {
         println!("states: seed {}: {} lists of calls that set the speed", seed, lists);
         made_lists(&mut bench, seed, *lists)?;
     }
     speeds_counted("lists", &bench, *lists >= LISTS)?;
     floors_counted("lists", &bench, *lists >= LISTS)?;
+    places_counted("lists", &bench, *lists >= LISTS)?;
     // Without the stored ones: what is made has to come to everything alone.
     bench.count_anew(Grants::of_sessions(), Warnings::of_sessions(), Speeds::of_lists());
-    bench.floors = Floors::of_sessions();
+    (bench.floors, bench.places) = (Floors::of_sessions(), Places::of_sessions());
     for &seed in seeds {
         println!("states: seed {}: {} sessions", seed, sessions);
         made_sessions(&mut bench, seed, *sessions)?;
     }
     counted("sessions", &bench, *sessions >= SESSIONS)?;
     floors_counted("sessions", &bench, *sessions >= SESSIONS)?;
+    places_counted("sessions", &bench, *sessions >= SESSIONS)?;
     bench.counts.summary()
 }
 
