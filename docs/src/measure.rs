@@ -1,8 +1,9 @@
 //! A program: measures the linked library against plain Rust, in one process.
 //!
 //! Blocks against `stepping.rs`, which takes every clock singly, and
-//! `events.rs`, which takes them together; calls against the second program,
-//! `reference.rs`. All must leave the same device, memory and latches.
+//! `events.rs`, which takes them together; calls, by value and in place, against
+//! the second program, `reference.rs`. All must leave the same device, memory and
+//! latches.
 //!
 //! Built by `rustc --edition 2021 -O -L native=target/staticlib measure.rs`,
 //! from this folder or with its path; `measure --help` says how it is run.
@@ -37,26 +38,33 @@ usage: measure [--rounds N]      measures all, in N rounds (5)
        measure --calls KIND N    makes N calls of a kind, and measures nothing
 Measures the linked library against plain Rust in one process. The contestants
 take turns in each round, and the fastest time of each counts. Printed are times
-in nanoseconds, their ratio, and the ratio aimed at. The contestants:
+in nanoseconds, their ratios, and the ratios aimed at. The contestants:
 
-  library    the library: a device goes in by value and comes back
+  by value   the library: a device goes in by value and comes back
+  in place   the library: a device is lent and changed where it stands
   stepping   plain Rust that takes one clock at a time, in place
   events     plain Rust that takes waits, slots and blocks at once, in place
   reference  the second program: calls in place, one clock at a time
 
+Blocks are moved by value, by events and by stepping, and music in place as well.
+Calls are made by value, in place and by the reference; a floor has one form and
+is asked for by value alone. For in place / by value the aim is at most 1.
 Required are:
-- the same device, memory and latches from library, events and stepping, on made
-  states and on the blocks measured, and from library and reference after the
-  calls measured;
-- stepping / library at least 4 on the block of music;
-- a grant of 4,000,000,000 clocks to a disabled device at most 10 times as long
-  as a grant of 1 clock.
+- the same device, memory and latches from by value, in place, events and
+  stepping on made states, from the contestants of each block, and, with the same
+  bytes read, from those of each kind of call;
+- stepping / by value at least 4 on the block of music;
+- a grant by value of 4,000,000,000 clocks to a disabled device at most 10 times
+  as long as a grant of 1 clock.
 
-With --calls a tool can count the library's instructions: the difference of two
-runs, divided by that of their calls, is one call with the loop around it. The
-kinds are write, read, read-status, grant0, grant1, grant1-continuous,
-grant20-burst, grant20-continuous, grant20-disabled, grant4g-disabled and music.
-A grant whose kind names no mode is to a disabled device. A call of music is the
+With --calls a tool can count the instructions: the difference of two runs,
+divided by that of their calls, is one call with the loop around it. The kinds
+are write, read, read-status, set-speed, cpu-floor, grant0, grant1,
+grant1-continuous, grant20-burst, grant20-continuous, grant20-disabled,
+grant4g-disabled and music: calls by value. With -in-place at its end a kind is
+of calls in place, and with -reference of the second program's; cpu-floor has
+neither, and for grant4g-disabled and music the second program needs too long. A
+grant whose kind names no mode is to a disabled device. A call of music is the
 whole block.
 
 Exit status: 0 done; 1 a requirement is not met; 2 bad arguments.
@@ -94,7 +102,7 @@ struct Left {
     device: Device,
     /// The sum of the calls' numbers: not 0 if one was refused.
     numbers: u64,
-    /// The sum of the bytes read.
+    /// The sum of the bytes read, or of the floors.
     bytes: u64,
 }
 
@@ -167,10 +175,20 @@ fn port_of_model(port: model::Port) -> zxndma::Port {
 type Grant = fn(&State, &mut Buffers, u32) -> Left;
 
 #[inline(never)]
-fn by_library(state: &State, lent: &mut Buffers, clocks: u32) -> Left {
-    let device = device_of_state(state);
-    let granted = device.grant(&mut lent.memory[..], &mut lent.latches[..], clocks);
-    Left { device: granted.device, numbers: u64::from(granted.number), bytes: 0 }
+fn by_value(state: &State, lent: &mut Buffers, clocks: u32) -> Left {
+    granted_left(ByValue { device: device_of_state(state) }, lent, clocks)
+}
+
+#[inline(never)]
+fn in_place(state: &State, lent: &mut Buffers, clocks: u32) -> Left {
+    granted_left(InPlace { device: device_of_state(state) }, lent, clocks)
+}
+
+/// What is left by the library in one of its forms.
+#[inline(always)]
+fn granted_left(mut side: impl Side, lent: &mut Buffers, clocks: u32) -> Left {
+    let number = side.grant(lent, clocks);
+    Left { device: side.device(), numbers: u64::from(number), bytes: 0 }
 }
 
 #[inline(never)]
@@ -287,8 +305,9 @@ const MADE_STATES: u32 = 10_000;
 fn compare_grants() -> Result<(), String> {
     let mut rng = Rng::new(1);
     let mut stepped = Buffers::random(1);
-    let mut others: [(&str, Grant, Buffers); 2] =
-        [("library", by_library, stepped.clone()), ("events", by_events, stepped.clone())];
+    let grants: [(&str, Grant); 3] =
+        [("by value", by_value), ("in place", in_place), ("events", by_events)];
+    let mut others = grants.map(|(name, grant)| (name, grant, stepped.clone()));
     for number in 0..MADE_STATES {
         let (state, clocks) = (made_state(&mut rng), made_clocks(&mut rng));
         let mut after = state;
@@ -301,7 +320,7 @@ fn compare_grants() -> Result<(), String> {
             })?;
         }
     }
-    println!("library, events and stepping: no difference on {MADE_STATES} made states");
+    println!("by value, in place, events and stepping: no difference on {MADE_STATES} made states");
     Ok(())
 }
 
@@ -460,38 +479,55 @@ fn fastest_part(mut state: State, lent: &mut Buffers, clocks: u32) -> (f64, Left
     (best * f64::from(PARTS), accepted_left(&state))
 }
 
-/// Library, events, stepping.
-fn block_contest(what: &'static str, block: State) -> Contest<'static, 3> {
-    let clocks = BYTES * u32::from(block.new_slot().length);
-    let turn = |grant: Grant| -> Contestant {
-        Box::new(move |lent| fastest_run(|| grant(&block, lent, clocks)))
-    };
-    let stepping = Box::new(move |lent: &mut Buffers| fastest_part(block, lent, clocks));
-    Contest::new(what, "at most 1.5", [turn(by_library), turn(by_events), stepping])
+/// A turn at a block.
+fn block_turn(grant: Grant, block: State, clocks: u32) -> Contestant<'static> {
+    Box::new(move |lent| fastest_run(|| grant(&block, lent, clocks)))
 }
 
-/// The least ratio of stepping to the library on the block of music.
+/// By value, events, stepping.
+fn block_contest(what: &'static str, block: State) -> Contest<'static, 3> {
+    let clocks = BYTES * u32::from(block.new_slot().length);
+    let turn = |grant| block_turn(grant, block, clocks);
+    let stepping = Box::new(move |lent: &mut Buffers| fastest_part(block, lent, clocks));
+    Contest::new(what, "at most 1.5", [turn(by_value), turn(by_events), stepping])
+}
+
+/// Music in place and by value: a whole block hides how the device goes in.
+fn music_contest() -> Contest<'static, 2> {
+    let turn = |grant| block_turn(grant, clock::music(), MUSIC_CLOCKS);
+    Contest::new(blocks()[0].0, "near 1", [turn(in_place), turn(by_value)])
+}
+
+/// The least ratio of stepping to the library by value on the block of music.
 const LEAST_SPEED: f64 = 4.0;
 
+fn a_byte(time: f64) -> f64 {
+    time / f64::from(BYTES)
+}
+
 fn print_blocks(contests: &[Contest<3>]) -> Result<(), String> {
-    let a_byte = |time| time / f64::from(BYTES);
-    print_heading("65,536 bytes, ns a byte", ["library", "events"]);
+    print_heading("65,536 bytes, ns a byte", ["by value", "events"]);
     for contest in contests {
-        let [library, events, _] = contest.best.map(a_byte);
-        print_row(contest.what, [library, events], contest.aim);
+        let [by_value, events, _] = contest.best.map(a_byte);
+        print_row(contest.what, [by_value, events], contest.aim);
     }
-    print_heading("65,536 bytes, ns a byte", ["stepping", "library"]);
+    print_heading("65,536 bytes, ns a byte", ["stepping", "by value"]);
     let mut aim = "at least 2000";
     for contest in contests {
-        let [library, _, stepping] = contest.best.map(a_byte);
-        print_row(contest.what, [stepping, library], aim);
+        let [by_value, _, stepping] = contest.best.map(a_byte);
+        print_row(contest.what, [stepping, by_value], aim);
         aim = "";
     }
-    let Contest { what, best: [library, _, stepping], .. } = &contests[0];
-    if stepping / library < LEAST_SPEED {
-        return Err(format!("{what}: stepping / library is below {LEAST_SPEED}"));
+    let Contest { what, best: [by_value, _, stepping], .. } = &contests[0];
+    if stepping / by_value < LEAST_SPEED {
+        return Err(format!("{what}: stepping / by value is below {LEAST_SPEED}"));
     }
     Ok(())
+}
+
+fn print_music(contest: &Contest<2>) {
+    print_heading("65,536 bytes, ns a byte", ["in place", "by value"]);
+    print_row(contest.what, contest.best.map(a_byte), contest.aim);
 }
 
 // ---- Calls ---------------------------------------------------------------
@@ -503,6 +539,8 @@ const PORT: u16 = 0x006B;
 enum Call {
     Write,
     Read,
+    /// Every code in turn.
+    SetSpeed,
     Grant(u32),
 }
 
@@ -524,7 +562,7 @@ impl Kind {
         }
     }
 
-    /// For the ratio of the library to the second program.
+    /// For the ratios of the library to the second program.
     fn aim(&self) -> &'static str {
         match self.call {
             Call::Grant(20) => "at most 1",
@@ -533,8 +571,8 @@ impl Kind {
     }
 }
 
-/// Those that the second program can take too.
-fn kinds() -> [Kind; 9] {
+/// Those that the second program can take too, and that have both forms.
+fn kinds() -> [Kind; 10] {
     let kind = |name, what, start, call| Kind { name, what, start, call };
     let disabled = model::power_on();
     let burst = transferring(&[0x22, 1], 0xCD);
@@ -543,6 +581,7 @@ fn kinds() -> [Kind; 9] {
         kind("write", "port writes, every register", disabled, Call::Write),
         kind("read", "port reads, round the mask", waiting(), Call::Read),
         kind("read-status", "port reads, the status alone", status_alone(), Call::Read),
+        kind("set-speed", "speed calls, every code", burst, Call::SetSpeed),
         kind("grant0", "grants of 0 clocks, disabled", disabled, Call::Grant(0)),
         kind("grant1", "grants of 1 clock, disabled", disabled, Call::Grant(1)),
         kind("grant1-continuous", "grants of 1 clock, continuous", continuous, Call::Grant(1)),
@@ -598,19 +637,22 @@ fn written_bytes() -> Vec<u8> {
     generate::register_bytes(MILLION as usize).collect()
 }
 
-/// The library or the second program. A call gives its number.
-trait Side {
+/// The library in one of its forms, or the second program. A call gives its
+/// number.
+trait Side: Copy {
     fn write(&mut self, byte: u8) -> u8;
     fn read(&mut self) -> (u8, u8);
+    fn set_speed(&mut self, code: u8) -> u8;
     fn grant(&mut self, lent: &mut Buffers, clocks: u32) -> u8;
     fn device(&self) -> Device;
 }
 
-struct Library {
+#[derive(Clone, Copy)]
+struct ByValue {
     device: Device,
 }
 
-impl Side for Library {
+impl Side for ByValue {
     fn write(&mut self, byte: u8) -> u8 {
         let written = self.device.write(PORT, byte);
         self.device = written.device;
@@ -623,10 +665,44 @@ impl Side for Library {
         (given.number, given.byte)
     }
 
+    fn set_speed(&mut self, code: u8) -> u8 {
+        let set = self.device.set_speed(code);
+        self.device = set.device;
+        set.number
+    }
+
     fn grant(&mut self, lent: &mut Buffers, clocks: u32) -> u8 {
         let granted = self.device.grant(&mut lent.memory[..], &mut lent.latches[..], clocks);
         self.device = granted.device;
         granted.number
+    }
+
+    fn device(&self) -> Device {
+        self.device
+    }
+}
+
+#[derive(Clone, Copy)]
+struct InPlace {
+    device: Device,
+}
+
+impl Side for InPlace {
+    fn write(&mut self, byte: u8) -> u8 {
+        self.device.write_in_place(PORT, byte).number
+    }
+
+    fn read(&mut self) -> (u8, u8) {
+        let given = self.device.read_in_place(PORT);
+        (given.number, given.byte)
+    }
+
+    fn set_speed(&mut self, code: u8) -> u8 {
+        self.device.set_speed_in_place(code)
+    }
+
+    fn grant(&mut self, lent: &mut Buffers, clocks: u32) -> u8 {
+        self.device.grant_in_place(&mut lent.memory[..], &mut lent.latches[..], clocks)
     }
 
     fn device(&self) -> Device {
@@ -645,6 +721,11 @@ impl Side for model::Device {
     #[inline(never)]
     fn read(&mut self) -> (u8, u8) {
         model::read(self, PORT)
+    }
+
+    #[inline(never)]
+    fn set_speed(&mut self, code: u8) -> u8 {
+        model::set_speed(self, code)
     }
 
     #[inline(never)]
@@ -680,6 +761,12 @@ fn make_calls(
                 bytes += u64::from(byte);
             }
         }
+        Call::SetSpeed => {
+            // From code 1 on, so that whole rounds end with another than power on's.
+            for number in 1..=calls {
+                numbers += u64::from(side.set_speed((number % 4) as u8));
+            }
+        }
         Call::Grant(clocks) => {
             for _ in 0..calls {
                 numbers += u64::from(side.grant(lent, clocks));
@@ -702,28 +789,65 @@ fn fastest_batch(
     lent: &mut Buffers,
 ) -> (f64, Left) {
     let mut written = written.iter().copied().cycle();
+    let batch = || make_calls(&mut side, call, BATCH, &mut written, lent);
+    let (time, numbers, bytes) = fastest_of(calls, batch);
+    (time, Left { device: side.device(), numbers, bytes })
+}
+
+/// The time of a call in the fastest batch, and the sums over all of them.
+fn fastest_of(calls: u32, mut batch: impl FnMut() -> (u64, u64)) -> (f64, u64, u64) {
     let (mut best, mut numbers, mut bytes) = (f64::INFINITY, 0, 0);
     for _ in 0..calls / BATCH {
-        let (time, (more_numbers, more_bytes)) =
-            timed(|| make_calls(&mut side, call, BATCH, &mut written, lent));
+        let (time, (more_numbers, more_bytes)) = timed(&mut batch);
         best = best.min(time);
         numbers += more_numbers;
         bytes += more_bytes;
     }
-    (best / f64::from(BATCH), Left { device: side.device(), numbers, bytes })
+    (best / f64::from(BATCH), numbers, bytes)
 }
 
-/// Library, reference.
-fn call_contest(kind: Kind, most_calls: u32, written: &[u8]) -> Contest<'_, 2> {
-    let Kind { what, start, call, .. } = kind;
+/// A turn at calls of a kind.
+fn call_turn<'a>(
+    side: impl Side + 'a,
+    kind: Kind,
+    most_calls: u32,
+    written: &'a [u8],
+) -> Contestant<'a> {
     let calls = kind.calls().min(most_calls);
-    let device = device_of_model(&start);
-    let library = Box::new(move |lent: &mut Buffers| {
-        fastest_batch(Library { device }, call, calls, written, lent)
+    Box::new(move |lent| fastest_batch(side, kind.call, calls, written, lent))
+}
+
+/// By value, in place, reference.
+fn call_contest(kind: Kind, most_calls: u32, written: &[u8]) -> Contest<'_, 3> {
+    let device = device_of_model(&kind.start);
+    let contestants = [
+        call_turn(ByValue { device }, kind, most_calls, written),
+        call_turn(InPlace { device }, kind, most_calls, written),
+        call_turn(kind.start, kind, most_calls, written),
+    ];
+    Contest::new(kind.what, kind.aim(), contestants)
+}
+
+/// In burst, with a prescaler.
+fn device_with_floor() -> Device {
+    device_of_model(&transferring(&[0x22, 1], 0xCD))
+}
+
+/// The sum of a device's floor, asked for so often. The second program has no
+/// turn: if it were asked, too, its grants would be compiled otherwise.
+fn sum_of_floors(device: Device, calls: u32) -> u64 {
+    (0..calls).map(|_| u64::from(device.cpu_floor())).sum()
+}
+
+/// By value alone.
+fn floor_contest(most_calls: u32) -> Contest<'static, 1> {
+    let device = device_with_floor();
+    let by_value: Contestant = Box::new(move |_| {
+        let batch = || (0, sum_of_floors(device, BATCH));
+        let (time, numbers, bytes) = fastest_of(MILLION.min(most_calls), batch);
+        (time, Left { device, numbers, bytes })
     });
-    let reference =
-        Box::new(move |lent: &mut Buffers| fastest_batch(start, call, calls, written, lent));
-    Contest::new(what, kind.aim(), [library, reference])
+    Contest::new("floors, burst", "", [by_value])
 }
 
 /// A call that takes so many nanoseconds is not made a million times.
@@ -731,72 +855,129 @@ const SLOW: f64 = 1e6;
 
 /// The library alone, many clocks and one: a disabled device has no byte to
 /// move, so that its clocks should cost nothing.
-fn idle_contest(most_calls: u32) -> Contest<'static, 2> {
-    let calls = MILLION.min(most_calls);
-    let device = Device::power_on();
+fn idle_contest(what: &'static str, side: impl Side + 'static, most: u32) -> Contest<'static, 2> {
+    let calls = MILLION.min(most);
     let turn = |clocks| -> Contestant {
         Box::new(move |lent| {
-            let (once, _) = fastest_run(|| Library { device }.grant(lent, clocks));
+            let device = side.device();
+            let once = fastest_run(|| granted_left(side, lent, clocks)).0;
             if once > SLOW {
                 return (once, Left { device, numbers: 0, bytes: 0 });
             }
-            let call = Call::Grant(clocks);
-            let (time, mut left) = fastest_batch(Library { device }, call, calls, &[], lent);
+            let (time, mut left) = fastest_batch(side, Call::Grant(clocks), calls, &[], lent);
             // They differ in the clocks counted, and in nothing else.
             left.device.clocks = device.clocks;
             (time, left)
         })
     };
-    Contest::new(many_clocks().what, "near 1", [turn(MANY_CLOCKS), turn(1)])
+    Contest::new(what, "near 1", [turn(MANY_CLOCKS), turn(1)])
 }
 
-fn print_calls(contests: &[Contest<2>]) {
-    print_heading("calls, ns each", ["library", "reference"]);
-    for contest in contests {
-        print_row(contest.what, contest.best, contest.aim);
+/// By value, in place.
+fn idle_contests(most: u32) -> [Contest<'static, 2>; 2] {
+    let device = Device::power_on();
+    [
+        idle_contest("4,000,000,000 clocks, disabled, by value", ByValue { device }, most),
+        idle_contest("4,000,000,000 clocks, disabled, in place", InPlace { device }, most),
+    ]
+}
+
+/// The aim in the last column is for both ratios to the reference.
+fn print_calls(contests: &[Contest<3>], floors: &Contest<1>) {
+    let names = ["by value", "in place", "reference"].map(|name| format!("{name:>11}"));
+    let ratios = ["place/value", "place/ref", "value/ref"].map(|name| format!("{name:>13}"));
+    println!("\n{:34}{}{}  aim", "calls, ns each", names.concat(), ratios.concat());
+    println!("{:34}{:>46}", "aim", "at most 1");
+    for Contest { what, best: [by_value, in_place, reference], aim, .. } in contests {
+        println!(
+            "{what:34}{by_value:11.3}{in_place:11.3}{reference:11.3}{:13.2}{:13.2}{:13.2}  {aim}",
+            in_place / by_value,
+            in_place / reference,
+            by_value / reference
+        );
     }
+    println!("{:34}{:11.3}", floors.what, floors.best[0]);
 }
 
-/// The most that many clocks may take of the time of one.
+/// The most that many clocks may take of the time of one, by value.
 const MOST_IDLE: f64 = 10.0;
 
-fn print_idle(contest: &Contest<2>) -> Result<(), String> {
-    print_heading("library, ns a call", ["many clocks", "1 clock"]);
-    if print_row(contest.what, contest.best, contest.aim) > MOST_IDLE {
-        return Err(format!("{}: more than {MOST_IDLE} times 1 clock", contest.what));
+fn print_idle(contests: &[Contest<2>]) -> Result<(), String> {
+    print_heading("library, ns a grant", ["many clocks", "1 clock"]);
+    let ratios = contests.iter().map(|Contest { what, best, aim, .. }| print_row(what, *best, aim));
+    let ratios: Vec<f64> = ratios.collect();
+    if ratios[0] > MOST_IDLE {
+        return Err(format!("{}: more than {MOST_IDLE} times 1 clock", contests[0].what));
     }
     Ok(())
 }
 
 // ---- Calls to be counted -------------------------------------------------
 
-/// Makes calls of the library. What it prepares does not depend on how many.
-fn only_calls(name: &str, calls: u32) -> Result<(), Failure> {
+/// How calls are made.
+#[derive(Clone, Copy)]
+enum Form {
+    ByValue,
+    InPlace,
+    Reference,
+}
+
+/// The name of a kind, and the form that its ending asks for.
+fn name_and_form(word: &str) -> (&str, Form) {
+    let ending = |ending, form| word.strip_suffix(ending).map(|name| (name, form));
+    let in_place = ending("-in-place", Form::InPlace);
+    in_place.or(ending("-reference", Form::Reference)).unwrap_or((word, Form::ByValue))
+}
+
+/// Makes calls alone. What it prepares does not depend on how many.
+fn only_calls(word: &str, calls: u32) -> Result<(), Failure> {
     let mut lent = Buffers::zero();
-    let left = if name == "music" {
-        music_blocks(calls, &mut lent)
-    } else {
-        let mut known = kinds().into_iter().chain([many_clocks()]);
-        let kind = known.find(|kind| kind.name == name);
-        let kind = kind.ok_or_else(|| bad_usage(format!("{name} is not a kind of call")))?;
-        let mut library = Library { device: device_of_model(&kind.start) };
-        let bytes = if matches!(kind.call, Call::Write) { written_bytes() } else { Vec::new() };
-        let mut written = bytes.iter().copied().cycle();
-        let (numbers, bytes) = make_calls(&mut library, kind.call, calls, &mut written, &mut lent);
-        Left { device: library.device, numbers, bytes }
+    let (name, form) = name_and_form(word);
+    let left = match (name, form) {
+        ("music", Form::ByValue) => music_blocks(by_value, calls, &mut lent),
+        ("music", Form::InPlace) => music_blocks(in_place, calls, &mut lent),
+        ("cpu-floor", Form::ByValue) => {
+            let device = device_with_floor();
+            Left { device, numbers: 0, bytes: sum_of_floors(device, calls) }
+        }
+        _ => calls_of_kind(kind_of(word)?, form, calls, &mut lent),
     };
     accepted(&left).map_err(|text| (1, text))?;
     println!("{calls} calls, bytes read {}, {:?}", left.bytes, left.device.clocks);
     Ok(())
 }
 
-fn music_blocks(blocks: u32, lent: &mut Buffers) -> Left {
-    let start = device_of_state(&clock::music());
-    let mut left = Left { device: start, numbers: 0, bytes: 0 };
+/// The kind that a word names, if there is one that has this form.
+fn kind_of(word: &str) -> Result<Kind, Failure> {
+    let (name, form) = name_and_form(word);
+    let many = Some(many_clocks()).filter(|_| !matches!(form, Form::Reference));
+    let kind = kinds().into_iter().chain(many).find(|kind| kind.name == name);
+    kind.ok_or_else(|| bad_usage(format!("{word} is not a kind of call")))
+}
+
+fn calls_of_kind(kind: Kind, form: Form, calls: u32, lent: &mut Buffers) -> Left {
+    let device = device_of_model(&kind.start);
+    match form {
+        Form::ByValue => calls_of_side(ByValue { device }, kind.call, calls, lent),
+        Form::InPlace => calls_of_side(InPlace { device }, kind.call, calls, lent),
+        Form::Reference => calls_of_side(kind.start, kind.call, calls, lent),
+    }
+}
+
+fn calls_of_side(mut side: impl Side, call: Call, calls: u32, lent: &mut Buffers) -> Left {
+    let bytes = if matches!(call, Call::Write) { written_bytes() } else { Vec::new() };
+    let mut written = bytes.iter().copied().cycle();
+    let (numbers, bytes) = make_calls(&mut side, call, calls, &mut written, lent);
+    Left { device: side.device(), numbers, bytes }
+}
+
+fn music_blocks(grant: Grant, blocks: u32, lent: &mut Buffers) -> Left {
+    let start = clock::music();
+    let mut left = accepted_left(&start);
     for _ in 0..blocks {
-        let granted = start.grant(&mut lent.memory[..], &mut lent.latches[..], MUSIC_CLOCKS);
-        left.numbers += u64::from(granted.number);
-        left.device = granted.device;
+        let numbers = left.numbers;
+        left = grant(&start, lent, MUSIC_CLOCKS);
+        left.numbers += numbers;
     }
     left
 }
@@ -811,17 +992,22 @@ fn measure(extent: Extent) -> Result<(), Failure> {
 fn hold_contests(extent: &Extent) -> Result<(), String> {
     let written = written_bytes();
     let mut blocks = blocks().map(|(what, block)| block_contest(what, block));
+    let mut music = music_contest();
     let mut calls = kinds().map(|kind| call_contest(kind, extent.calls, &written));
-    let mut idle = idle_contest(extent.calls);
+    let mut floors = floor_contest(extent.calls);
+    let mut idle = idle_contests(extent.calls);
     let start = Buffers::random(2);
     let mut lent = start.clone();
     for _ in 0..extent.rounds {
         blocks.iter_mut().try_for_each(|contest| contest.round(&start, &mut lent))?;
+        music.round(&start, &mut lent)?;
         calls.iter_mut().try_for_each(|contest| contest.round(&start, &mut lent))?;
-        idle.round(&start, &mut lent)?;
+        floors.round(&start, &mut lent)?;
+        idle.iter_mut().try_for_each(|contest| contest.round(&start, &mut lent))?;
     }
     print_blocks(&blocks)?;
-    print_calls(&calls);
+    print_music(&music);
+    print_calls(&calls, &floors);
     print_idle(&idle)
 }
 
