@@ -1,1 +1,2 @@
 pub mod Borrowed
+pub mod Refused
