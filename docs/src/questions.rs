@@ -1,7 +1,7 @@
 //! A module: counts what came, by question and answer.
 //!
-//! `floors.rs`, `grants.rs`, `speeds.rs`, `waits.rs` and `warnings.rs` ask. A case
-//! that never came is named.
+//! `floors.rs`, `grants.rs`, `places.rs`, `speeds.rs`, `waits.rs` and `warnings.rs`
+//! ask. A case that never came is named.
 
 #![forbid(unsafe_code)]
 
