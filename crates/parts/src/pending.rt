@@ -28,6 +28,9 @@ pub const B_HIGH: u16 = 256;
 
 pub const READ_MASK: u16 = 512;
 
+// WR4's two together.
+const B_BOTH: u16 = 384;
+
 // The next one, the lowest set bit; 0 for none.
 pub fn next_of(p: u16) -> u16
     ensures { λ r. ⌜ r ≡ next p ⌝ }
@@ -132,13 +135,13 @@ pub fn after(parameter: u16, byte: u8, p: u16) -> u16
     p - parameter
 }
 
-// The parameters are some of WR0's, some of WR4's, or one of the others alone.
+// The parameters are some of WR0's, some of WR4's, or one of the others alone. From A timing on, the numbers of one alone are the
+// divisors of the last one's, and WR4's two together are all that is left.
 pub fn is_valid(p: u16) -> bool
     ensures { λ r. ⌜ r ≡ validPending p ⌝ }
 {
     if p < A_TIMING {
         return true;
     }
-    let of_wr4 = (p % B_LOW == 0) & (p < READ_MASK);
-    (p == A_TIMING) | ((p == B_TIMING) | ((p == PRESCALER) | (of_wr4 | (p == READ_MASK))))
+    (READ_MASK % p == 0) | (p == B_BOTH)
 }

@@ -1,6 +1,9 @@
 // The transfer slot: the one that begins or runs, at the speed that the device has, waiting in it, and who has the bus.
 ghost use mathlib.Core.Path.{_≡_};
-ghost use Rattle.rules.specs.Slots.{noSlot, waiting, busHeld, unmoved, busTimeOf, slotLength, newSlot, slotOf};
+ghost use mathlib.Core.List.{[], _∷_};
+ghost use lib.Dec.{ltb, eqb};
+ghost use Rattle.rules.specs.Choice.{any};
+ghost use Rattle.rules.specs.Slots.{noSlot, waiting, busHeld, busTimeOf, slotLength, newSlot, slotOf};
 use crate::speed;
 use rules::Core;
 use rules::Slot;
@@ -84,9 +87,9 @@ pub fn holds_bus(c: Core) -> bool
     c.enabled & !waits
 }
 
-// The slot's byte has not moved yet.
-pub fn is_unmoved(s: Slot) -> bool
-    ensures { λ r. ⌜ r ≡ unmoved s ⌝ }
+// With so many clocks elapsed, the byte of a slot of this bus time has not moved yet.
+pub fn is_unmoved(elapsed: u16, bus: u16) -> bool
+    ensures { λ r. ⌜ r ≡ any (eqb elapsed 0 ∷ ltb elapsed bus ∷ []) ⌝ }
 {
-    (s.elapsed == 0) | (s.elapsed < s.bus)
+    (elapsed == 0) | (elapsed < bus)
 }

@@ -1,17 +1,17 @@
-// Validity of a core, part by part, and of a core with its clock counts.
+// Validity of a core, part by part, and of a core with its clock counts. The tests are strict and take single fields: that keeps
+// the whole small enough for a compiler to put it into each call. A part by value would be read as one number and taken apart.
 ghost use mathlib.Core.Path.{_≡_};
+ghost use mathlib.Core.Bool.{not};
+ghost use mathlib.Core.List.{[], _∷_};
 ghost use lib.Dec.{leb};
-ghost use Rattle.rules.specs.Validity.{validPort, validReadback, restingSlot, prescaledLength, validLength, runningSlot, validSlot, validProgress, validCore, total, most64, valid};
+ghost use Rattle.rules.specs.Choice.{every, means};
+ghost use Rattle.rules.specs.Validity.{prescaledLength, validSlot, validCore, total, most64, valid};
 use crate::block;
 use crate::pending;
 use crate::slot;
 use crate::speed;
-use rules::Block;
 use rules::Clocks;
 use rules::Core;
-use rules::Port;
-use rules::Readback;
-use rules::Slot;
 
 // The largest number of 64 bits.
 pub const MOST: u64 = 18446744073709551615;
@@ -23,24 +23,17 @@ const MOST_BUS: u16 = 64;
 const MOST_LENGTH: u16 = 8160;
 
 // The cycle is 2 to 4 clocks.
-fn valid_port(p: Port) -> bool
-    ensures { λ r. ⌜ r ≡ validPort p ⌝ }
+fn valid_cycle(cycle: u8) -> bool
+    ensures { λ r. ⌜ r ≡ every (leb 2 cycle ∷ leb cycle 4 ∷ []) ⌝ }
 {
-    (2 <= p.cycle) & (p.cycle <= 4)
+    (2 <= cycle) & (cycle <= 4)
 }
 
 // The mask has seven bits, and the position is one of seven registers.
-fn valid_readback(r: Readback) -> bool
-    ensures { λ x. ⌜ x ≡ validReadback r ⌝ }
+fn valid_readback(mask: u8, position: u8) -> bool
+    ensures { λ r. ⌜ r ≡ every (leb mask 127 ∷ leb position 6 ∷ []) ⌝ }
 {
-    (r.mask <= 127) & (r.position <= 6)
-}
-
-// With no clock elapsed the slot's figures are 0 and continuous.
-fn resting_slot(s: Slot) -> bool
-    ensures { λ r. ⌜ r ≡ restingSlot s ⌝ }
-{
-    (s.bus == 0) & ((s.length == 0) & !s.burst)
+    (mask <= 127) & (position <= 6)
 }
 
 // A multiple of 32 from 32 to 8,160.
@@ -50,91 +43,60 @@ fn prescaled_length(n: u16) -> bool
     (32 <= n) & ((n <= MOST_LENGTH) & (n % 32 == 0))
 }
 
-// The length is the bus time, or such a multiple of 32 that is not below it.
-fn valid_length(s: Slot) -> bool
-    ensures { λ r. ⌜ r ≡ validLength s ⌝ }
+// With no clock elapsed the slot's figures are 0 and continuous; with clocks elapsed the device is enabled, the bus time and the
+// length are within their bounds, and the length is not reached.
+fn valid_slot(enabled: bool, elapsed: u16, bus: u16, length: u16, burst: bool) -> bool
+    ensures { λ r. ⌜ r ≡ validSlot enabled (record { elapsed = elapsed; bus = bus; length = length; burst = burst }) ⌝ }
 {
-    let prescaled = prescaled_length(s.length);
-    (s.length == s.bus) | (prescaled & (s.bus <= s.length))
-}
-
-// With clocks elapsed the bus time and the length are within their bounds, and the length is not reached.
-fn running_slot(s: Slot) -> bool
-    ensures { λ r. ⌜ r ≡ runningSlot s ⌝ }
-{
-    let length = valid_length(s);
-    (4 <= s.bus) & ((s.bus <= MOST_BUS) & (length & (s.elapsed < s.length)))
-}
-
-// Clocks have elapsed only while the device is enabled.
-fn valid_slot(enabled: bool, s: Slot) -> bool
-    ensures { λ r. ⌜ r ≡ validSlot enabled s ⌝ }
-{
-    if s.elapsed == 0 {
-        return resting_slot(s);
+    if elapsed == 0 {
+        return (bus == 0) & ((length == 0) & !burst);
     }
-    if !enabled {
-        return false;
-    }
-    running_slot(s)
+    let prescaled = prescaled_length(length);
+    let valid_length = (length == bus) | (prescaled & (bus <= length));
+    enabled & ((4 <= bus) & ((bus <= MOST_BUS) & (valid_length & (elapsed < length))))
 }
 
 // An enabled device whose byte has not moved has not finished its block.
-fn valid_progress(enabled: bool, b: Block, s: Slot) -> bool
-    ensures { λ r. ⌜ r ≡ validProgress enabled b s ⌝ }
+fn valid_progress(enabled: bool, unmoved: bool, finished: bool) -> bool
+    ensures { λ r. ⌜ r ≡ means (every (enabled ∷ unmoved ∷ [])) (not finished) ⌝ }
 {
-    if !enabled {
-        return true;
-    }
-    if !slot::is_unmoved(s) {
-        return true;
-    }
-    !block::is_finished(b)
+    !(enabled & (unmoved & finished))
 }
 
 // The core is valid.
 fn valid_core(c: Core) -> bool
     ensures { λ r. ⌜ r ≡ validCore c ⌝ }
 {
-    let a = c.a;
-    let b = c.b;
-    let block = c.block;
-    let readback = c.readback;
-    let parameters = c.pending;
-    let slot = c.slot;
-    if !valid_port(a) {
+    let a = valid_cycle(c.a.cycle);
+    let b = valid_cycle(c.b.cycle);
+    let counter = c.block.counter <= 65536;
+    let speed = speed::is_speed(c.control.speed);
+    let readback = valid_readback(c.readback.mask, c.readback.position);
+    if !(a & (b & (counter & (speed & readback)))) {
         return false;
     }
-    if !valid_port(b) {
+    if !pending::is_valid(c.pending) {
         return false;
     }
-    if 65536 < block.counter {
+    let elapsed = c.slot.elapsed;
+    let bus = c.slot.bus;
+    if !valid_slot(c.enabled, elapsed, bus, c.slot.length, c.slot.burst) {
         return false;
     }
-    if !speed::is_speed(c.control.speed) {
-        return false;
-    }
-    if !valid_readback(readback) {
-        return false;
-    }
-    if !pending::is_valid(parameters) {
-        return false;
-    }
-    if !valid_slot(c.enabled, slot) {
-        return false;
-    }
-    valid_progress(c.enabled, block, slot)
+    let unmoved = slot::is_unmoved(elapsed, bus);
+    let finished = block::is_finished(c.block);
+    valid_progress(c.enabled, unmoved, finished)
 }
 
-// The sum of the clock counts fits 64 bits; no sum wraps on the way.
+// The sum of the clock counts fits 64 bits: each fits what those before it leave, and nothing wraps on the way.
 fn fits(k: Clocks) -> bool
     ensures { λ r. ⌜ r ≡ leb (total k) most64 ⌝ }
 {
-    if MOST - k.bus < k.held {
+    let room = MOST - k.bus;
+    if room < k.held {
         return false;
     }
-    let both = k.bus + k.held;
-    if MOST - both < k.cpu {
+    if room - k.held < k.cpu {
         return false;
     }
     true

@@ -1,12 +1,10 @@
 -- The strict test is the list of tests.
 -- Assumes nothing.
 use Rattle.rules.proofs.Choice.{strict}
-use Rattle.rules.specs.Slots.{unmoved}
 use Rattle.parts.proofs.slot.is_unmoved.Statement.{statement}
 use Rattle.parts.proofs.slot.is_unmoved.Tie as tie
 
 returns : tie.Need-returns
-unfolding unmoved
 returns c = simp strict
 
 pub is-unmoved-spec : {M : Type 1} → statement M

@@ -1,12 +1,10 @@
 -- The strict test is the list of tests.
 -- Assumes nothing.
 use Rattle.rules.proofs.Choice.{strict}
-use Rattle.rules.specs.Validity.{validReadback}
 use Rattle.parts.proofs.valid.valid_readback.Statement.{statement}
 use Rattle.parts.proofs.valid.valid_readback.Tie as tie
 
 returns : tie.Need-returns
-unfolding validReadback
 returns c = simp strict
 
 pub valid-readback-spec : {M : Type 1} → statement M
