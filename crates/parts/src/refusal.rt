@@ -1,12 +1,11 @@
 // Why a port write, a port read or a speed call is refused.
 ghost use mathlib.Core.Path.{_≡_};
-ghost use Rattle.rules.specs.Validity.{total};
-ghost use Rattle.rules.specs.Refusals.{wrongPort, accessRefusal, speedRefusal};
-use crate::slot;
+ghost use mathlib.Core.Bool.{not};
+ghost use mathlib.Core.List.{[], _∷_};
+ghost use Rattle.rules.specs.Choice.{test, firstHit};
+ghost use Rattle.rules.specs.Speed.{isSpeed};
+ghost use Rattle.rules.specs.Refusals.{wrongPort};
 use crate::speed;
-use crate::valid;
-use rules::Clocks;
-use rules::Core;
 
 // The port is not one of the device's.
 fn is_wrong_port(port: u16) -> bool
@@ -16,13 +15,11 @@ fn is_wrong_port(port: u16) -> bool
     (low != 0x6B) & (low != 0x0B)
 }
 
-// The number of a port write or a port read: 0 for accepted.
-pub fn access_number(c: Core, k: Clocks, port: u16) -> u8
-    ensures { λ r. ⌜ r ≡ accessRefusal c (total k) port ⌝ }
+// The number of a port write or a port read, by whether the device is valid and holds the bus: 0 for accepted.
+pub fn access_number(valid: bool, held: bool, port: u16) -> u8
+    ensures { λ r. ⌜ r ≡ firstHit (test 1 (not valid) ∷ test 2 (wrongPort port) ∷ test 3 held ∷ []) ⌝ }
 {
-    let valid = valid::is_valid(c, k);
     let wrong = is_wrong_port(port);
-    let held = slot::holds_bus(c);
     if !valid {
         return 1;
     }
@@ -35,11 +32,11 @@ pub fn access_number(c: Core, k: Clocks, port: u16) -> u8
     0
 }
 
-// The number of a speed call: 0 for accepted.
-pub fn speed_number(c: Core, k: Clocks, code: u8) -> u8
-    ensures { λ r. ⌜ r ≡ speedRefusal c (total k) code ⌝ }
+// The number of a speed call, by whether the device is valid: 0 for accepted.
+pub fn speed_number(valid: bool, code: u8) -> u8
+    ensures { λ r. ⌜ r ≡ firstHit (test 1 (not valid) ∷ test 7 (not (isSpeed code)) ∷ []) ⌝ }
 {
-    if !valid::is_valid(c, k) {
+    if !valid {
         return 1;
     }
     if !speed::is_speed(code) {

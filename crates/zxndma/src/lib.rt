@@ -126,7 +126,9 @@ impl Device {
     {
         let core = self.core;
         let clocks = self.clocks;
-        let number = refusal::access_number(core, clocks, port);
+        let valid = self.is_valid();
+        let held = slot::holds_bus(core);
+        let number = refusal::access_number(valid, held, port);
         if number == 0 {
             let decoded = register::write(port, byte, core);
             let next = decoded.core;
@@ -150,7 +152,9 @@ impl Device {
     {
         let core = self.core;
         let clocks = self.clocks;
-        let number = refusal::access_number(core, clocks, port);
+        let valid = self.is_valid();
+        let held = slot::holds_bus(core);
+        let number = refusal::access_number(valid, held, port);
         if number == 0 {
             let given = readback::read(core);
             let next = given.core;
@@ -175,7 +179,8 @@ impl Device {
     {
         let core = self.core;
         let clocks = self.clocks;
-        let number = refusal::speed_number(core, clocks, code);
+        let valid = self.is_valid();
+        let number = refusal::speed_number(valid, code);
         if number == 0 {
             let next = part::at_speed(code, core);
             let device = Device { core: next, clocks };

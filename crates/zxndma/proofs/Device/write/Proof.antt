@@ -1,11 +1,19 @@
 -- Where the number is 0 the warning and the core are those of the write; else there is no warning, and the core is as it came.
+-- The number is by the list of tests, of which code has asked the first and the last.
 -- Assumes nothing.
 use Rattle.rules.specs.Choice.{pick}
+use Rattle.rules.specs.Refusals.{accessRefusalIf}
 use Rattle.rules.specs.Calls.{unlessRefused, writeReplyOver}
 use borrow.Author.Tests.{eq-eqb, ne-eqb}
 use borrow.Author.Needs.{needs}
 use Rattle.zxndma.proofs.Device.write.Statement.{statement}
 use Rattle.zxndma.proofs.Device.write.Tie as tie
+
+is-valid-requires : tie.Need-is-valid-requires
+is-valid-requires c κs = search needs
+
+holds-bus-requires : tie.Need-holds-bus-requires
+holds-bus-requires c κs = search needs
 
 access-number-requires : tie.Need-access-number-requires
 access-number-requires c κs = search needs
@@ -14,12 +22,24 @@ write-requires : tie.Need-write-requires
 write-requires c κs = search needs
 
 returns : tie.Need-returns
-unfolding writeReplyOver unlessRefused pick
-returns c = simp (eq-eqb _ _ (c .before .before .if1 .taken), ← c .before .before .before .access-number .ensures, c .before .write .ensures)
+unfolding writeReplyOver accessRefusalIf unlessRefused pick
+returns c =
+    let asked = c .before .before .before in
+    simp (← asked .before .before .is-valid .ensures, ← asked .before .holds-bus .ensures, ← asked .access-number .ensures, eq-eqb _ _ (c .before .before .if1 .taken), c .before .write .ensures)
 
 returns-2 : tie.Need-returns-2
-unfolding writeReplyOver unlessRefused pick
-returns-2 c = simp (ne-eqb _ _ (c .if1 .left), ← c .before .access-number .ensures)
+unfolding writeReplyOver accessRefusalIf unlessRefused pick
+returns-2 c =
+    let asked = c .before in
+    simp (← asked .before .before .is-valid .ensures, ← asked .before .holds-bus .ensures, ← asked .access-number .ensures, ne-eqb _ _ (c .if1 .left))
 
 pub write-spec : {M : Type 1} → statement M
-write-spec = tie.close (tie.spec access-number-requires write-requires returns returns-2)
+write-spec =
+    tie.close
+    (tie.spec
+    is-valid-requires
+    holds-bus-requires
+    access-number-requires
+    write-requires
+    returns
+    returns-2)
