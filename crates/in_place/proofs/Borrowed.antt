@@ -1,10 +1,13 @@
--- What the walks of the calls in place share. A device owns nothing that its relation does not make, so that a walk carries its cell and nothing else of it.
+-- What the walks of the calls in place share. A device owns nothing that its relation does not make, so that a walk carries its
+-- cell and nothing else of it.
+--     is-device, had     a device's fields lie within their types; what it owns is had for nothing
 --     device-fits, core-fits, clocks-fit     a device and its two parts have their types
 --     local       a local is read
 --     opened      the borrow of a device is opened, which gives its cell
 --     put-back    core and clock counts of another device, one after the other, are put into the cell
 --     closed      the borrow is closed at the device that lies there
---     leaves      what a call leaves whose other parameters are plain: the token, the borrow at its last device, the parameters and the result
+--     leaves      what a call leaves whose other parameters are plain: the token, the borrow at its last device, the parameters
+--                 and the result
 -- Assumes `Given`.
 use mathlib.Core.Path.{_≡_, refl, subst}
 use Prim.Native.Nat.{ℕ, zero}

@@ -1,2 +1,3 @@
 pub mod Borrowed
 pub mod Refused
+pub mod Same

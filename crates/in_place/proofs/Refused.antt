@@ -1,4 +1,5 @@
--- A refused call in place leaves everything: its promise has the answer of the call by value, and a refused one hands back what it was handed (`hands-back`, of the rules).
+-- A refused call in place leaves everything: its promise has the answer of the call by value, and a refused one hands back what
+-- it was handed (`hands-back`, of the rules).
 -- Assumes nothing.
 use Prim.Native.Nat.{ℕ}
 use mathlib.Core.Path.{_≡_, _∙_, ap}

@@ -1,4 +1,6 @@
--- `in_place::zxndma_write_in_place` meets its contract: a walk of its MIR, by hand. The borrow is opened, the device is copied out and handed to `Device::write`, of which all that is known is that it meets its contract; core and clock counts of its answer are put into the device's cell, and the borrow is closed there.
+-- `in_place::zxndma_write_in_place` meets its contract: a walk of its MIR, by hand. The borrow is opened, the device is copied out
+-- and handed to `Device::write`, of which all that is known is that it meets its contract. Core and
+-- clock counts of its answer are put into the device's cell, and the borrow is closed there.
 -- Assumes nothing.
 use mathlib.Core.Path.{_≡_, refl, ap}
 use Prim.Native.Nat.{ℕ, _<_, _^_}
