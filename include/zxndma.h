@@ -181,9 +181,9 @@ zxndma_device zxndma_power_on(void);
 
 /* ---- In place ----
  *
- * The device is the host's own and is changed where it lies; nothing of it is kept after the call. The pointer is not null
- * and is aligned, to a device that nothing else reaches during the call and that overlaps neither buffer. A refused call
- * leaves the device as it was. */
+ * The device is the host's own and is changed where it lies; nothing of it is kept after the call. The pointer is not null, is
+ * aligned to 8 bytes, as a zxndma_device is, and is to a device in memory that can be written, which nothing else reads or
+ * writes during the call and which overlaps neither buffer. A refused call writes the device too, with what was there. */
 
 /* A byte is written to the DMA's port. The port number's low byte is 6B (zxn mode) or 0B (Zilog mode); the high byte is
  * free. An accepted byte with a discouraged value has a warning in its answer. */
@@ -192,32 +192,26 @@ zxndma_written zxndma_write_in_place(zxndma_device *device, uint16_t port, uint8
 /* A byte is read from the DMA's port, 6B or 0B as above. */
 zxndma_given zxndma_read_in_place(zxndma_device *device, uint16_t port);
 
-/* That many clocks pass, and all of them are used. Memory and latches are lent as for zxndma_grant. Answers 0 for accepted,
- * else the refusal: 1, 4, 5 or 6. */
+/* That many clocks pass, and all of them are used. Both buffers stay the host's and are used only during the call. Each
+ * pointer is to as many bytes as its length says and is not null, also where the length is 0; the two buffers do not
+ * overlap. A length other than ZXNDMA_BUFFER_LENGTH is refused with 4 or 5. Answers 0 for accepted, else the refusal: 1, 4, 5
+ * or 6. */
 uint8_t zxndma_grant_in_place(zxndma_device *device, uint8_t *memory, size_t memory_length, uint8_t *latches,
                               size_t latches_length, uint32_t clocks);
 
-/* The processor's speed is set, by its code, at any time, as by zxndma_set_speed. Answers 0 for accepted, else the refusal:
- * 1 or 7. */
+/* The processor's speed is set, by its code, at any time. A slot that is running keeps its figures, and the slots after it
+ * go by the new speed. No other call changes the speed, and Reset leaves it. Answers 0 for accepted, else the refusal: 1, or 7
+ * for a code above 3. */
 uint8_t zxndma_set_speed_in_place(zxndma_device *device, uint8_t code);
 
-/* ---- By value ---- */
-
-/* A byte is written to the DMA's port. The port number's low byte is 6B (zxn mode) or 0B (Zilog mode); the high byte is
- * free. An accepted byte with a discouraged value has a warning in its answer. */
+/* ---- By value ----
+ *
+ * Write, read, grant and set speed do what the calls in place do, with the same buffers; the device is handed over, and handed
+ * back in the answer. */
 zxndma_write_answer zxndma_write(zxndma_device device, uint16_t port, uint8_t byte);
-
-/* A byte is read from the DMA's port, 6B or 0B as above. */
 zxndma_read_answer zxndma_read(zxndma_device device, uint16_t port);
-
-/* That many clocks pass, and all of them are used. Both buffers stay the host's and are used only during the call. Each
- * pointer is to as many bytes as its length says and is not null, also where the length is 0; the two buffers do not
- * overlap. A length other than ZXNDMA_BUFFER_LENGTH is refused with 4 or 5. */
 zxndma_grant_answer zxndma_grant(zxndma_device device, uint8_t *memory, size_t memory_length, uint8_t *latches,
                                  size_t latches_length, uint32_t clocks);
-
-/* The processor's speed is set, by its code, at any time. A slot that is running keeps its figures, and the slots after it
- * go by the new speed. No other call changes the speed, and Reset leaves it. A code above 3 is refused with 7. */
 zxndma_speed_answer zxndma_set_speed(zxndma_device device, uint8_t code);
 
 /* The device is valid: no call refuses it with 1. */

@@ -1,4 +1,4 @@
-// The device's calls for C and for Rust. Each hands what it is given to the function that it wraps, and answers the same.
+// The device's calls by value, for C and for Rust. Each hands what it is given to the function that it wraps, and answers the same.
 ghost use mathlib.Core.Path.{_≡_};
 ghost use Rattle.rules.specs.Validity.{valid, total};
 ghost use Rattle.rules.specs.Floor.{cpuFloor};

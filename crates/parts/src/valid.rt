@@ -1,5 +1,5 @@
-// Validity of a core, part by part, and of a core with its clock counts. The tests are strict and take single fields: that keeps
-// the whole small enough for a compiler to put it into each call. A part by value would be read as one number and taken apart.
+// Validity of a core, part by part, and of a core with its clock counts. Most tests take single fields and are strict, with a few
+// early exits between them: that keeps the whole small enough for a compiler to put it into each call.
 ghost use mathlib.Core.Path.{_≡_};
 ghost use mathlib.Core.Bool.{not};
 ghost use mathlib.Core.List.{[], _∷_};

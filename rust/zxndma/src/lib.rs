@@ -3,12 +3,14 @@
 //! a module and pass rustc their folder by `-L native=FOLDER`. It compiles in
 //! editions 2021 and 2024.
 //!
-//! A device is plain data. Each call comes in two forms, which do the same: in
-//! place, with a device that the host keeps and lends, as an element of its own
-//! table; and by value, where the device is handed over and handed back in the
-//! answer. Any content is a device; calls refuse one that is not valid. A
-//! refused call changes nothing: the device stays, or comes back, as it was,
-//! and no byte of a buffer is written.
+//! A device is plain data. Write, read, grant and set speed come in two forms,
+//! which do the same: in place, with a device that the host keeps and lends, as
+//! an element of its own table; and by value, where the device is handed over
+//! and handed back in the answer. A `Device` is copied by assignment, and a call
+//! in place on a copy changes the copy: make it on the element itself. Any
+//! content is a device; calls refuse one that is not valid. A refused call
+//! changes nothing: the device stays, or comes back, as it was, and no byte of a
+//! buffer is written.
 //!
 //! Clocks are those of 28 MHz, whatever the processor's speed is. At 28 MHz a
 //! cycle of 4 takes 4 of them; at 14, 7 and 3.5 MHz it takes 2, 4 and 8 times
@@ -363,31 +365,30 @@ impl Device {
         }
     }
 
-    /// The processor's speed is set, by its code, at any time, as by
-    /// `set_speed`. Answers 0, or with what it was refused: 7 if the code is
-    /// above 3, and 1; then the device is as it was.
+    /// The processor's speed is set, by its code, at any time. A slot that is
+    /// running keeps its figures, and the slots after it go by the new speed. No
+    /// other call changes the speed, and Reset leaves it. Answers 0, or with what
+    /// it was refused: 7 if the code is above 3, and 1; then the device is as it
+    /// was.
     pub fn set_speed_in_place(&mut self, code: u8) -> u8 {
         // SAFETY: as for a write in place.
         unsafe { zxndma_set_speed_in_place(self, code) }
     }
 
-    /// A byte is written to the DMA's port: the port number's low byte is 6B
-    /// (zxn mode) or 0B (Zilog mode). An accepted byte with a discouraged value
-    /// has a warning in its answer. Refused with 1, 2 or 3.
+    /// As `write_in_place`, with the device handed over, and handed back in the
+    /// answer.
     pub fn write(self, port: u16, byte: u8) -> WriteAnswer {
         // SAFETY: plain data goes over by value; a Rust bool is 0 or 1.
         unsafe { zxndma_write(self, port, byte) }
     }
 
-    /// A byte is read from the DMA's port. Refused with 1, 2 or 3, and then
-    /// the byte is 0.
+    /// As `read_in_place`, by value.
     pub fn read(self, port: u16) -> ReadAnswer {
         // SAFETY: as for a write.
         unsafe { zxndma_read(self, port) }
     }
 
-    /// That many clocks pass, and all of them are used. Refused with 4 or 5
-    /// if memory or latches are not `BUFFER_LENGTH` bytes, and with 1 or 6.
+    /// As `grant_in_place`, by value.
     pub fn grant(self, memory: &mut [u8], latches: &mut [u8], clocks: u32) -> GrantAnswer {
         let (memory, memory_length) = (memory.as_mut_ptr(), memory.len());
         let (latches, latches_length) = (latches.as_mut_ptr(), latches.len());
@@ -397,10 +398,7 @@ impl Device {
         unsafe { zxndma_grant(self, memory, memory_length, latches, latches_length, clocks) }
     }
 
-    /// The processor's speed is set, by its code, at any time. A slot that is
-    /// running keeps its figures, and the slots after it go by the new speed. No
-    /// other call changes the speed, and Reset leaves it. Refused with 7 if the
-    /// code is above 3, and with 1.
+    /// As `set_speed_in_place`, by value.
     pub fn set_speed(self, code: u8) -> SpeedAnswer {
         // SAFETY: as for a write.
         unsafe { zxndma_set_speed(self, code) }
