@@ -66,11 +66,16 @@ impl Table {
     pub fn others_stay(&self) -> Result<(), String> {
         let changed = |place: &usize| self.devices[*place] != self.others[*place];
         let mut places = 0..self.devices.len();
-        let Some(place) = places.find(|place| *place != self.place && changed(place)) else {
-            return Ok(());
-        };
+        match places.find(|place| *place != self.place && changed(place)) {
+            None => Ok(()),
+            Some(place) => Err(self.difference(place)),
+        }
+    }
+
+    /// What another place held, and what it holds.
+    fn difference(&self, place: usize) -> String {
         let side = if place < self.place { "before" } else { "behind" };
-        Err(format!(
+        format!(
             "the {} device of the table was lent, and the one {} {} it changes\n\
              was:     {:?}\nbecomes: {:?}",
             PLACES[self.place()],
@@ -78,7 +83,7 @@ impl Table {
             side,
             self.others[place],
             self.devices[place]
-        ))
+        )
     }
 
     /// All calls were lent the same device, which was put there once.
