@@ -39,7 +39,7 @@ speeds.
   PARTS     the source with the parts of the device: crates/rules/src/lib.rt
   RATTLE    the sources of the device and of what calls answer, of which every
             struct is compared: crates/zxndma/src/lib.rt
-            crates/in_place/src/lib.rt
+            crates/lent/src/lib.rt
 
 Exit status: 0 the same; 1 a difference, or a file can't be read or understood;
 2 bad arguments.

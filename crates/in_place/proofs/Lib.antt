@@ -1,3 +1,1 @@
 pub mod Borrowed
-pub mod Refused
-pub mod Same

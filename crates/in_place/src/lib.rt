@@ -5,26 +5,10 @@ ghost use mathlib.Core.Path.{_≡_};
 ghost use Rattle.rules.specs.Buffers.{flat};
 ghost use Rattle.rules.specs.Calls.{writeReply, readReply, speedReply, grant};
 ghost use Rattle.zxndma.specs.Answers.{writeAnswer, readAnswer, speedAnswer, systemOf, grantAnswer};
-ghost use Rattle.in_place.specs.Answers.{asWriteAnswer, asReadAnswer, asSpeedAnswer, asGrantAnswer};
+ghost use Rattle.lent.specs.Answers.{asWriteAnswer, asReadAnswer, asSpeedAnswer, asGrantAnswer};
+use lent::Given;
+use lent::Written;
 use zxndma::Device;
-
-// What a port write answers beside the device.
-#[repr(C)]
-pub struct Written {
-    // 0 for accepted, else the refusal number: 1, 2 or 3.
-    pub number: u8,
-    // The warning of the byte, as in the answer by value; 0 for none, and for a refused write.
-    pub warning: u8,
-}
-
-// What a port read answers beside the device.
-#[repr(C)]
-pub struct Given {
-    // 0 for accepted, else the refusal number: 1, 2 or 3.
-    pub number: u8,
-    // The byte read, 0 for a refused read.
-    pub byte: u8,
-}
 
 // A byte is written to a port. Refused with 1, 2 or 3.
 #[no_mangle]

@@ -47,9 +47,9 @@ use Rattle.zxndma.proofs.Device.read as g
 use Rattle.zxndma.proofs.Device.read.Symbol as g-def
 use Rattle.zxndma.proofs.Device.read.Symbol.{name as #g}
 use Rattle.zxndma.proofs.Device.read.Met as g-thm
-use Rattle.in_place.specs.declared.Given.{Given as Beside}
-use Rattle.in_place.proofs.Given as S
-use Rattle.in_place.proofs.Given.Laws as S′
+use Rattle.lent.specs.declared.Given.{Given as Beside}
+use Rattle.lent.proofs.Given as S
+use Rattle.lent.proofs.Given.Laws as S′
 use Rattle.in_place.proofs.Borrowed.{R, vals, seen, borrow, IsDevice, is-device, device-fits, had, local, opened, put-back, closed, leaves}
 use Rattle.in_place.proofs.zxndma_read_in_place.Key.{name as #f}
 use Rattle.in_place.proofs.zxndma_read_in_place as f

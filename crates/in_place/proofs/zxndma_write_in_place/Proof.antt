@@ -47,9 +47,9 @@ use Rattle.zxndma.proofs.Device.write as g
 use Rattle.zxndma.proofs.Device.write.Symbol as g-def
 use Rattle.zxndma.proofs.Device.write.Symbol.{name as #g}
 use Rattle.zxndma.proofs.Device.write.Met as g-thm
-use Rattle.in_place.specs.declared.Written.{Written as Beside}
-use Rattle.in_place.proofs.Written as S
-use Rattle.in_place.proofs.Written.Laws as S′
+use Rattle.lent.specs.declared.Written.{Written as Beside}
+use Rattle.lent.proofs.Written as S
+use Rattle.lent.proofs.Written.Laws as S′
 use Rattle.in_place.proofs.Borrowed.{R, vals, seen, borrow, IsDevice, is-device, device-fits, had, local, opened, put-back, closed, leaves}
 use Rattle.in_place.proofs.zxndma_write_in_place.Key.{name as #f}
 use Rattle.in_place.proofs.zxndma_write_in_place as f

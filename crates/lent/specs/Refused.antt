@@ -7,9 +7,9 @@ use Rattle.rules.specs.Buffers.{flat}
 use Rattle.rules.specs.Calls.{writeReply, readReply, speedReply, grant}
 use Rattle.zxndma.specs.Answers.{writeAnswer, readAnswer, speedAnswer, systemOf, grantAnswer}
 use Rattle.zxndma.specs.declared.Device.{Device}
-use Rattle.in_place.specs.Answers.{asWriteAnswer, asReadAnswer, asSpeedAnswer, asGrantAnswer}
-use Rattle.in_place.specs.declared.Written.{Written}
-use Rattle.in_place.specs.declared.Given.{Given}
+use Rattle.lent.specs.Answers.{asWriteAnswer, asReadAnswer, asSpeedAnswer, asGrantAnswer}
+use Rattle.lent.specs.declared.Written.{Written}
+use Rattle.lent.specs.declared.Given.{Given}
 
 -- whatever is answered, and left in place of d, by a call that keeps its promise
 pub record RefusedLeavesAll : Type 0 where

@@ -8,7 +8,7 @@ use Rattle.rules.specs.Calls.{Reply}
 use Rattle.rules.proofs.Calls.{hands-back}
 use Rattle.zxndma.specs.Answers.{device, systemOf}
 use Rattle.zxndma.specs.declared.Device.{Device}
-use Rattle.in_place.specs.Refused.{RefusedLeavesAll}
+use Rattle.lent.specs.Refused.{RefusedLeavesAll}
 
 -- a number that is not 0, answered by another name
 not-zero : {m n : ℕ} → m ≡ n → (m ≡ 0 → ⊥) → n ≡ 0 → ⊥

@@ -2,7 +2,7 @@
 -- Assumes nothing.
 use mathlib.Core.Path.{_≡_, _∙_, ap, sym}
 use Rattle.zxndma.specs.Answers.{device}
-use Rattle.in_place.specs.Same.{SameAsByValue}
+use Rattle.lent.specs.Same.{SameAsByValue}
 
 pub same-as-by-value : SameAsByValue
 same-as-by-value = record {

@@ -6,8 +6,8 @@ use Rattle.zxndma.specs.declared.WriteAnswer.{WriteAnswer}
 use Rattle.zxndma.specs.declared.ReadAnswer.{ReadAnswer}
 use Rattle.zxndma.specs.declared.SpeedAnswer.{SpeedAnswer}
 use Rattle.zxndma.specs.declared.GrantAnswer.{GrantAnswer}
-use Rattle.in_place.specs.declared.Written.{Written}
-use Rattle.in_place.specs.declared.Given.{Given}
+use Rattle.lent.specs.declared.Written.{Written}
+use Rattle.lent.specs.declared.Given.{Given}
 
 abbrev pub asWriteAnswer : Written → Device → WriteAnswer
 asWriteAnswer r d = record { number = r .number; warning = r .warning; device = d }

@@ -12,9 +12,9 @@ use Rattle.zxndma.specs.declared.WriteAnswer.{WriteAnswer}
 use Rattle.zxndma.specs.declared.ReadAnswer.{ReadAnswer}
 use Rattle.zxndma.specs.declared.SpeedAnswer.{SpeedAnswer}
 use Rattle.zxndma.specs.declared.GrantAnswer.{GrantAnswer}
-use Rattle.in_place.specs.Answers.{asWriteAnswer, asReadAnswer, asSpeedAnswer, asGrantAnswer}
-use Rattle.in_place.specs.declared.Written.{Written}
-use Rattle.in_place.specs.declared.Given.{Given}
+use Rattle.lent.specs.Answers.{asWriteAnswer, asReadAnswer, asSpeedAnswer, asGrantAnswer}
+use Rattle.lent.specs.declared.Written.{Written}
+use Rattle.lent.specs.declared.Given.{Given}
 
 -- r and d′ are answered and left in place, v is answered by value; m′ and l′ are left in the buffers in place, m″ and l″ by value
 pub record SameAsByValue : Type 0 where
