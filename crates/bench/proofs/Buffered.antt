@@ -10,12 +10,12 @@ use lib.ListN.{length, get_or, take, drop, set, length-set, length-drop}
 use lib.Seq.{paste, paste-zero, paste-suc, drop-paste, get_or-drop, take-nil, length-slice}
 use Rattle.bench.specs.Buffered.{kept}
 
-drop-take : (at have : ℕ) (l : List ℕ) → take (have - at) (drop at l) ≡ drop at (take have l)
-drop-take zero have l = ap (λ (n : ℕ). take n l) (let z : have - 0 ≡ have = omega arith in z)
-drop-take (suc at) zero l = ap (λ (n : ℕ). take n (drop (suc at) l)) (let z : 0 - suc at ≡ 0 = omega arith in z)
-drop-take (suc at) (suc have) [] = take-nil (suc have - suc at)
-drop-take (suc at) (suc have) (x ∷ l) =
-    ap (λ (n : ℕ). take n (drop at l)) (let z : suc have - suc at ≡ have - at = omega arith in z) ∙ drop-take at have l
+drop_take : (at have : ℕ) (l : List ℕ) → take (have - at) (drop at l) ≡ drop at (take have l)
+drop_take zero have l = ap (λ (n : ℕ). take n l) (let z : have - 0 ≡ have = omega arith in z)
+drop_take (suc at) zero l = ap (λ (n : ℕ). take n (drop (suc at) l)) (let z : 0 - suc at ≡ 0 = omega arith in z)
+drop_take (suc at) (suc have) [] = take-nil (suc have - suc at)
+drop_take (suc at) (suc have) (x ∷ l) =
+    ap (λ (n : ℕ). take n (drop at l)) (let z : suc have - suc at ≡ have - at = omega arith in z) ∙ drop_take at have l
 
 -- so many bytes are copied
 pub record Keeping (l₀ : List ℕ) (at have : ℕ) (l : List ℕ) (count from : ℕ) : Type 0 where
@@ -40,8 +40,8 @@ module _ {l₀ l : List ℕ} {at have count from : ℕ} (k : Keeping l₀ at hav
       ∙ ap (λ (n : ℕ). get_or l₀ n 0) (let z : (0 + count) + at ≡ at + count = omega arith in z)
       ∙ sym (get_or-drop at l₀ count 0)
 
-  pub keeping-more : from < have → Keeping l₀ at have (set l count (get_or l from 0)) (count + 1) (from + 1)
-  keeping-more h =
+  pub keeping_more : from < have → Keeping l₀ at have (set l count (get_or l from 0)) (count + 1) (from + 1)
+  keeping_more h =
       record {
         list =
             ap (λ (x : ℕ). set l count x) (unread h)
@@ -56,9 +56,9 @@ module _ {l₀ l : List ℕ} {at have count from : ℕ} (k : Keeping l₀ at hav
         size = length-set l count (get_or l from 0) ∙ k.size;
       }
 
-  pub keeping-end : have ≤ from → (count ≡ have - at) × (l ≡ kept at have l₀)
+  pub keeping_end : have ≤ from → (count ≡ have - at) × (l ≡ kept at have l₀)
   unfolding kept
-  keeping-end h = let
+  keeping_end h = let
       all : count ≡ have - at = omega (arith, k.place, k.most)
       in (
         all,
@@ -66,5 +66,5 @@ module _ {l₀ l : List ℕ} {at have count from : ℕ} (k : Keeping l₀ at hav
             ∙ ap (paste l₀ 0 (drop at l₀)) all
             ∙ ap (λ (n : ℕ). take (have - at) (drop at l₀) ++ drop n l₀) (let z : 0 + (have - at) ≡ have - at = omega arith in z)
             ∙ ap (λ (n : ℕ). take (have - at) (drop at l₀) ++ drop n l₀) (sym (length-slice at have l₀ fits))
-            ∙ ap (λ (x : List ℕ). x ++ drop (length (drop at (take have l₀))) l₀) (drop-take at have l₀),
+            ∙ ap (λ (x : List ℕ). x ++ drop (length (drop at (take have l₀))) l₀) (drop_take at have l₀),
       )

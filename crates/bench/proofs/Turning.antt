@@ -13,65 +13,65 @@ use Rattle.rules.specs.Choice.{pick}
 use Rattle.rules.specs.Buffers.{Buffers}
 use Rattle.rules.proofs.Choice.{pick_true, pick-false}
 use Rattle.clocking.specs.Answers.{borrowed}
-use Rattle.session.specs.Steps.{sessionAtStart}
+use Rattle.session.specs.Steps.{session_at_start}
 use Rattle.session.specs.declared.step.Session.{Session}
-use Rattle.bench.specs.Buffered.{notTaken, kept}
-use Rattle.bench.specs.Working.{Gathered, gatheredIn, Left, left, leftBy}
-use Rattle.bench.specs.Turning.{AreLines, stateWith, Refilled, NextTurn, Turned, holdsAtStart, Turns, mostTurns, Ran}
+use Rattle.bench.specs.Buffered.{not_taken, kept}
+use Rattle.bench.specs.Working.{Gathered, gathered_in, Left, left, left_by}
+use Rattle.bench.specs.Turning.{AreLines, state_with, Refilled, NextTurn, Turned, holds_at_start, Turns, most_turns, Ran}
 use Rattle.bench.specs.Turning.Turns.{none, more}
-use Rattle.bench.proofs.Working.{tail-behind}
+use Rattle.bench.proofs.Working.{tail_behind}
 use Rattle.bench.specs.declared.State.{State}
 use Rattle.bench.specs.declared.Worked.{Worked}
 
 module _ (s : State) (input : List ℕ) (fits : s.have ≤ length input) where
-  kept-front : {count : ℕ} {l : List ℕ} → count ≡ s.have - s.at → l ≡ kept s.at s.have input → take count l ≡ notTaken s.at s.have input
+  kept_front : {count : ℕ} {l : List ℕ} → count ≡ s.have - s.at → l ≡ kept s.at s.have input → take count l ≡ not_taken s.at s.have input
   unfolding kept
-  kept-front {count} e f =
+  kept_front {count} e f =
       ap (take count) f
-      ∙ take_at (notTaken s.at s.have input) _ count (length-slice s.at s.have input fits ∙ sym e)
+      ∙ take_at (not_taken s.at s.have input) _ count (length-slice s.at s.have input fits ∙ sym e)
 
   -- what the buffer is when its part behind the bytes kept has been read into
-  abbrev pub readInto : ℕ → List ℕ → List ℕ → List ℕ
-  readInto count l part = take count l ++ (part ++ drop (length l - count) (drop count l))
+  abbrev pub read_into : ℕ → List ℕ → List ℕ → List ℕ
+  read_into count l part = take count l ++ (part ++ drop (length l - count) (drop count l))
 
   -- the part, as code lends it
   abbrev pub part_of : ℕ → List ℕ → List ℕ → List ℕ
-  part_of count l part = take (length (readInto count l part) - count) (drop count (readInto count l part))
+  part_of count l part = take (length (read_into count l part) - count) (drop count (read_into count l part))
 
   -- the state after a read of some bytes behind those kept
-  abbrev readState : Bool → ℕ → Bool → State
-  readState failed have ended =
+  abbrev read_state : Bool → ℕ → Bool → State
+  read_state failed have ended =
       record { session = s.session; at = 0; have = have; ended = ended; stopped = pick failed true s.stopped }
 
   module _ {count : ℕ} {l : List ℕ} (part : List ℕ) (k : (count ≡ s.have - s.at) × (l ≡ kept s.at s.have input)) (size : length l ≡ length input) where
-    read-most : {more : ℕ} → more ≤ length (part_of count l part) → more ≤ length part
-    read-most {more} h = let
+    read_most : {more : ℕ} → more ≤ length (part_of count l part) → more ≤ length part
+    read_most {more} h = let
         rest : List ℕ = drop (length l - count) (drop count l)
         in
-        let tail : drop count (readInto count l part) ≡ part ++ rest = drop_at (take count l) (part ++ rest) count (length-take-le count l (omega (arith, k.0))) in
-        omega (arith, h, length-take (length (readInto count l part) - count) (drop count (readInto count l part)), ap length tail, length-append part rest, ap length (tail-behind count l))
+        let tail : drop count (read_into count l part) ≡ part ++ rest = drop_at (take count l) (part ++ rest) count (length-take-le count l (omega (arith, k.0))) in
+        omega (arith, h, length-take (length (read_into count l part) - count) (drop count (read_into count l part)), ap length tail, length-append part rest, ap length (tail_behind count l))
 
     pub refilled :
         (failed : Bool) {more : ℕ} {ended : Bool}
         → more ≤ length (part_of count l part)
         → pick failed s.ended (pick (eqb more 0) true s.ended) ≡ ended
-        → Refilled s input (readState failed (count + more) ended) (readInto count l part)
+        → Refilled s input (read_state failed (count + more) ended) (read_into count l part)
     refilled failed {more} {ended} h e = let
-        old : List ℕ = notTaken s.at s.have input
+        old : List ℕ = not_taken s.at s.have input
         in
         let rest : List ℕ = drop (length l - count) (drop count l) in
-        let most : more ≤ length part = read-most h in
-        let count-old : count ≡ length old = k.0 ∙ sym (length-slice s.at s.have input fits) in
+        let most : more ≤ length part = read_most h in
+        let count_old : count ≡ length old = k.0 ∙ sym (length-slice s.at s.have input fits) in
         record {
           failed = failed;
           new = take more part;
           state =
-              ap (readState failed (count + more)) (sym e)
-              ∙ ap (λ (m : ℕ). stateWith s failed m more) count-old
-              ∙ ap (stateWith s failed (length old)) (sym (length-take-le more part most));
+              ap (read_state failed (count + more)) (sym e)
+              ∙ ap (λ (m : ℕ). state_with s failed m more) count_old
+              ∙ ap (state_with s failed (length old)) (sym (length-take-le more part most));
           bytes =
-              ap (λ (x : List ℕ). take (count + more) (x ++ (part ++ rest))) (kept-front k.0 k.1)
-              ∙ ap (λ (m : ℕ). take (m + more) (old ++ (part ++ rest))) count-old
+              ap (λ (x : List ℕ). take (count + more) (x ++ (part ++ rest))) (kept_front k.0 k.1)
+              ∙ ap (λ (m : ℕ). take (m + more) (old ++ (part ++ rest))) count_old
               ∙ take-append-add old (part ++ rest) more
               ∙ ap (λ (x : List ℕ). old ++ x) (take-append-le more part rest most);
         }
@@ -79,9 +79,9 @@ module _ (s : State) (input : List ℕ) (fits : s.have ≤ length input) where
 -- ---- a turn
 
 -- what is handed on to be written
-pub are-lines : (s : State) (input output : List ℕ) (b : Buffers (List ℕ)) {w : Worked} {o m l : List ℕ} → left w o m l ≡ leftBy (gatheredIn s input output b) → length o ≡ length output → AreLines s input o w.filled
-are-lines s input output b {w} {o} {m} {l} e size = let
-    g : Gathered = gatheredIn s input output b
+pub are_lines : (s : State) (input output : List ℕ) (b : Buffers (List ℕ)) {w : Worked} {o m l : List ℕ} → left w o m l ≡ left_by (gathered_in s input output b) → length o ≡ length output → AreLines s input o w.filled
+are_lines s input output b {w} {o} {m} {l} e size = let
+    g : Gathered = gathered_in s input output b
     in
     record {
       before = output;
@@ -94,13 +94,13 @@ are-lines s input output b {w} {o} {m} {l} e size = let
     }
 
 -- the bytes at hand fit the buffer, since they are in it
-refilled-fits : {s : State} {input : List ℕ} {r : State} {input' : List ℕ} → Refilled s input r input' → r.have ≤ length input'
-refilled-fits {s} {input} {r} {input'} f =
+refilled_fits : {s : State} {input : List ℕ} {r : State} {input' : List ℕ} → Refilled s input r input' → r.have ≤ length input'
+refilled_fits {s} {input} {r} {input'} f =
     omega (
       arith,
       ap (λ (x : State). x.have) f.state,
       ap length f.bytes,
-      length-append (notTaken s.at s.have input) f.new,
+      length-append (not_taken s.at s.have input) f.new,
       length-take r.have input',
     )
 
@@ -113,75 +113,75 @@ state_of s stopped x =
 shown : {X Y : Type 0} → X ≡ Y → Y → X
 shown e y = subst⁻¹ (λ (Z : Type 0). Z) e y
 
-module _ (s : State) (input output : List ℕ) (b : Buffers (List ℕ)) (fits : s.have ≤ length input) {w : Worked} {o m l : List ℕ} (e : left w o m l ≡ leftBy (gatheredIn s input output b)) where
-  last_progress : w.progress ≡ (gatheredIn s input output b).progress
+module _ (s : State) (input output : List ℕ) (b : Buffers (List ℕ)) (fits : s.have ≤ length input) {w : Worked} {o m l : List ℕ} (e : left w o m l ≡ left_by (gathered_in s input output b)) where
+  last_progress : w.progress ≡ (gathered_in s input output b).progress
   last_progress = ap (λ (x : Left). x.worked.progress) e
 
   turned :
       (r : Left → State) (written : Bool) {input' : List ℕ}
-      → NextTurn written s (gatheredIn s input output b) input (r (leftBy (gatheredIn s input output b))) input'
-      → (r (leftBy (gatheredIn s input output b))).have ≤ length input'
-      → Turned s (gatheredIn s input output b) input (r (left w o m l)) input' o (borrowed m l)
+      → NextTurn written s (gathered_in s input output b) input (r (left_by (gathered_in s input output b))) input'
+      → (r (left_by (gathered_in s input output b))).have ≤ length input'
+      → Turned s (gathered_in s input output b) input (r (left w o m l)) input' o (borrowed m l)
   turned r written {input'} next h =
-      subst (λ (x : Left). Turned s (gatheredIn s input output b) input (r x) input' x.output x.buffers) (sym e)
+      subst (λ (x : Left). Turned s (gathered_in s input output b) input (r x) input' x.output x.buffers) (sym e)
       (record { output = refl; buffers = refl; written = written; next = next; fits = h })
 
-  pub turned-unwritten : Turned s (gatheredIn s input output b) input (state_of s true (left w o m l)) input o (borrowed m l)
+  pub turned_unwritten : Turned s (gathered_in s input output b) input (state_of s true (left w o m l)) input o (borrowed m l)
   unfolding NextTurn pick
-  turned-unwritten = turned (state_of s true) false (refl, refl) fits
+  turned_unwritten = turned (state_of s true) false (refl, refl) fits
 
-  pub turned-over : w.progress ≡ 2 → Turned s (gatheredIn s input output b) input (state_of s true (left w o m l)) input o (borrowed m l)
+  pub turned_over : w.progress ≡ 2 → Turned s (gathered_in s input output b) input (state_of s true (left w o m l)) input o (borrowed m l)
   unfolding NextTurn pick
-  turned-over n = turned (state_of s true) true (shown (pick_true _ _ _ (eq-eqb _ 2 (sym last_progress ∙ n))) (refl, refl)) fits
+  turned_over n = turned (state_of s true) true (shown (pick_true _ _ _ (eq-eqb _ 2 (sym last_progress ∙ n))) (refl, refl)) fits
 
   module _ (n : w.progress ≡ 2 → ⊥) where
-    goes : eqb (gatheredIn s input output b).progress 2 ≡ false
+    goes : eqb (gathered_in s input output b).progress 2 ≡ false
     goes = ne_eqb _ 2 (λ q. n (last_progress ∙ q))
 
-    pub turned_on : (w.progress ≡ 1 → ⊥) → Turned s (gatheredIn s input output b) input (state_of s s.stopped (left w o m l)) input o (borrowed m l)
+    pub turned_on : (w.progress ≡ 1 → ⊥) → Turned s (gathered_in s input output b) input (state_of s s.stopped (left w o m l)) input o (borrowed m l)
     unfolding NextTurn pick
     turned_on k =
         turned (state_of s s.stopped) true (shown (pick-false _ _ _ goes) (shown (pick-false _ _ _ (ne_eqb _ 1 (λ q. k (last_progress ∙ q)))) (refl, refl))) fits
 
-    pub turned_more : {r : State} {input' : List ℕ} → w.progress ≡ 1 → Refilled (state_of s s.stopped (left w o m l)) input r input' → Turned s (gatheredIn s input output b) input r input' o (borrowed m l)
+    pub turned_more : {r : State} {input' : List ℕ} → w.progress ≡ 1 → Refilled (state_of s s.stopped (left w o m l)) input r input' → Turned s (gathered_in s input output b) input r input' o (borrowed m l)
     unfolding NextTurn pick
     turned_more {r} {input'} k f = let
-        more : Refilled (state_of s s.stopped (leftBy (gatheredIn s input output b))) input r input' =
+        more : Refilled (state_of s s.stopped (left_by (gathered_in s input output b))) input r input' =
         subst (λ (x : Left). Refilled (state_of s s.stopped x) input r input') e f
         in
-        turned (λ x. r) true (shown (pick-false _ _ _ goes) (shown (pick_true _ _ _ (eq-eqb _ 1 (sym last_progress ∙ k))) more)) (refilled-fits f)
+        turned (λ x. r) true (shown (pick-false _ _ _ goes) (shown (pick_true _ _ _ (eq-eqb _ 1 (sym last_progress ∙ k))) more)) (refilled_fits f)
 
 -- ---- the run
 
 -- so many turns are left
 pub record Running (b : Buffers (List ℕ)) (input output memory latches : List ℕ) (s : State) (left : ℕ) : Type 0 where
-  pub turns : Turns (mostTurns - left) (holdsAtStart b) (record { state = s; input = input; output = output; buffers = borrowed memory latches })
-  pub most : left ≤ mostTurns
+  pub turns : Turns (most_turns - left) (holds_at_start b) (record { state = s; input = input; output = output; buffers = borrowed memory latches })
+  pub most : left ≤ most_turns
   pub fits : s.have ≤ length input
 
-pub running-start : (memory latches : List ℕ) {s : Session} → s ≡ sessionAtStart → Running (borrowed memory latches) (replicate 65536 0) (replicate 65536 0) memory latches (record { session = s; at = 0; have = 0; ended = false; stopped = false }) mostTurns
-running-start memory latches e =
+pub running_start : (memory latches : List ℕ) {s : Session} → s ≡ session_at_start → Running (borrowed memory latches) (replicate 65536 0) (replicate 65536 0) memory latches (record { session = s; at = 0; have = 0; ended = false; stopped = false }) most_turns
+running_start memory latches e =
     subst
-    (λ (x : Session). Running (borrowed memory latches) (replicate 65536 0) (replicate 65536 0) memory latches (record { session = x; at = 0; have = 0; ended = false; stopped = false }) mostTurns)
+    (λ (x : Session). Running (borrowed memory latches) (replicate 65536 0) (replicate 65536 0) memory latches (record { session = x; at = 0; have = 0; ended = false; stopped = false }) most_turns)
     (sym e)
     (record { turns = none; most = omega arith; fits = omega arith })
 
 module _ {b : Buffers (List ℕ)} {input output memory latches : List ℕ} {s : State} {n : ℕ} (w : Running b input output memory latches s n) where
-  pub running_more : {input' output' memory' latches' : List ℕ} {r : State} → 0 < n → s.stopped ≡ false → Turned s (gatheredIn s input output (borrowed memory latches)) input r input' output' (borrowed memory' latches') → Running b input' output' memory' latches' r (n - 1)
+  pub running_more : {input' output' memory' latches' : List ℕ} {r : State} → 0 < n → s.stopped ≡ false → Turned s (gathered_in s input output (borrowed memory latches)) input r input' output' (borrowed memory' latches') → Running b input' output' memory' latches' r (n - 1)
   running_more {input'} {output'} {memory'} {latches'} {r} h goes t =
       record {
         turns =
-            subst (λ (k : ℕ). Turns k (holdsAtStart b) (record { state = r; input = input'; output = output'; buffers = borrowed memory' latches' }))
-            (let e : mostTurns - n + 1 ≡ mostTurns - (n - 1) = omega (arith, w.most) in e)
+            subst (λ (k : ℕ). Turns k (holds_at_start b) (record { state = r; input = input'; output = output'; buffers = borrowed memory' latches' }))
+            (let e : most_turns - n + 1 ≡ most_turns - (n - 1) = omega (arith, w.most) in e)
             (more w.turns goes t);
         most = omega (arith, w.most);
         fits = t.fits;
       }
 
-  pub running-end : (0 < n → s.stopped ≡ true) → Ran b (borrowed memory latches)
-  running-end h =
+  pub running_end : (0 < n → s.stopped ≡ true) → Ran b (borrowed memory latches)
+  running_end h =
       record {
-        count = mostTurns - n;
+        count = most_turns - n;
         last = record { state = s; input = input; output = output; buffers = borrowed memory latches };
         turns = w.turns;
         buffers = refl;

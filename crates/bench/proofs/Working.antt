@@ -15,67 +15,67 @@ use Rattle.rules.specs.Buffers.{Buffers}
 use Rattle.rules.proofs.Choice.{pick-ap, pick_true, pick-false, pick-cases}
 use Rattle.clocking.specs.Answers.{borrowed}
 use Rattle.session.specs.Steps.{Outcome, step_of, outcome}
-use Rattle.runs.specs.Stepping.{lineIn}
+use Rattle.runs.specs.Stepping.{line_in}
 use Rattle.session.specs.declared.step.Session.{Session}
 use Rattle.session.specs.declared.step.Step.{Step}
 use Rattle.records.proofs.Choosing.{same}
-use Rattle.bench.specs.Working.{stepBehind, Gathered, behindLine, gatheredOnce, linesBefore, gatheredFrom, gathered, AllGathered, Left, left, leftBy}
-use Rattle.bench.proofs.Taking.{Taken, step-takes}
+use Rattle.bench.specs.Working.{step_behind, Gathered, behind_line, gathered_once, lines_before, gathered_from, gathered, AllGathered, Left, left, left_by}
+use Rattle.bench.proofs.Taking.{Taken, step_takes}
 
 -- ---- a step behind the lines that have gathered
 
 -- the part of a list from a place on, as code lends it, and what lies behind that part
-tail-whole : (n : ℕ) (l : List ℕ) → take (length l - n) (drop n l) ≡ drop n l
-tail-whole n l = take_all (length l - n) (drop n l) (omega (arith, length-drop n l))
+tail_whole : (n : ℕ) (l : List ℕ) → take (length l - n) (drop n l) ≡ drop n l
+tail_whole n l = take_all (length l - n) (drop n l) (omega (arith, length-drop n l))
 
-pub tail-behind : (n : ℕ) (l : List ℕ) → drop (length l - n) (drop n l) ≡ []
-tail-behind n l = drop_of_length-le (drop n l) {i = length l - n} (omega (arith, length-drop n l))
+pub tail_behind : (n : ℕ) (l : List ℕ) → drop (length l - n) (drop n l) ≡ []
+tail_behind n l = drop_of_length-le (drop n l) {i = length l - n} (omega (arith, length-drop n l))
 
 module _ (filled : ℕ) (s : Session) (xs : List ℕ) (have p : ℕ) (ended : Bool) (out : List ℕ) (b : Buffers (List ℕ)) (h : filled ≤ length out) where
   -- the slice for the line, as code lends it
   abbrev pub lent : List ℕ
   lent = take (length out - filled) (drop filled out)
 
-  pub behind-lines :
+  pub behind_lines :
       {r : Step} {line m l : List ℕ}
       → (outcome r line m l ≡ step_of s (take (have - 0) xs) p ended lent b) × (r.length ≤ length lent)
-      → (outcome r (take filled out ++ (line ++ drop (length out - filled) (drop filled out))) m l ≡ stepBehind filled s (take have xs) p ended out b) × (filled + r.length ≤ length out)
-  unfolding stepBehind
-  behind-lines {r} {line} {m} {l} e = (
-    ap (λ (x : List ℕ). outcome r (take filled out ++ (line ++ x)) m l) (tail-behind filled out)
+      → (outcome r (take filled out ++ (line ++ drop (length out - filled) (drop filled out))) m l ≡ step_behind filled s (take have xs) p ended out b) × (filled + r.length ≤ length out)
+  unfolding step_behind
+  behind_lines {r} {line} {m} {l} e = (
+    ap (λ (x : List ℕ). outcome r (take filled out ++ (line ++ x)) m l) (tail_behind filled out)
         ∙ ap (λ (x : List ℕ). outcome r (take filled out ++ x) m l) (append-nil line)
         ∙ ap
         (λ (o : Outcome). record { said = record { step = o.said.step; line = take filled out ++ o.said.line }; buffers = o.buffers })
         (e.0
         ∙ ap (λ (n : ℕ). step_of s (take n xs) p ended lent b) (let z : have - 0 ≡ have = omega arith in z)
-        ∙ ap (λ (x : List ℕ). step_of s (take have xs) p ended x b) (tail-whole filled out)),
-    omega (arith, e.1, length-drop filled out, ap length (tail-whole filled out)),
+        ∙ ap (λ (x : List ℕ). step_of s (take have xs) p ended x b) (tail_whole filled out)),
+    omega (arith, e.1, length-drop filled out, ap length (tail_whole filled out)),
   )
 
 -- ---- what is still to come
 
 -- the steps that can come from a place on, at most
-unfoldable pub toGo : List ℕ → ℕ → ℕ → ℕ
-toGo xs progress p = pick (eqb progress 0) (suc (length xs - p)) 0
+unfoldable pub to_go : List ℕ → ℕ → ℕ → ℕ
+to_go xs progress p = pick (eqb progress 0) (suc (length xs - p)) 0
 
 -- the same with other lines
-abbrev pub withLines : Gathered → List ℕ → Gathered
-withLines g lines =
+abbrev pub with_lines : Gathered → List ℕ → Gathered
+with_lines g lines =
     record { progress = g.progress; session = g.session; next = g.next; lines = lines; unused = g.unused; buffers = g.buffers }
 
 module _ (xs : List ℕ) (ended : Bool) where
   -- where no byte is left, the first step is the last
-  once : (n : ℕ) (s : Session) (p : ℕ) (out : List ℕ) (b : Buffers (List ℕ)) → length xs - p ≤ 0 → gatheredFrom n s xs p ended out b ≡ gatheredOnce (step_of s xs p ended out b)
-  unfolding gatheredFrom
+  once : (n : ℕ) (s : Session) (p : ℕ) (out : List ℕ) (b : Buffers (List ℕ)) → length xs - p ≤ 0 → gathered_from n s xs p ended out b ≡ gathered_once (step_of s xs p ended out b)
+  unfolding gathered_from
   once zero s p out b h = refl
   once (suc n) s p out b h =
       pick-false _ _ _
       (ne_eqb _ 0
-      (λ e. let t : Taken xs p (step_of s xs p ended out b).said.step.next = step-takes s xs p ended out b e in omega arith))
+      (λ e. let t : Taken xs p (step_of s xs p ended out b).said.step.next = step_takes s xs p ended out b e in omega arith))
 
   -- each step that goes on takes bytes, so that it makes no difference how many more are allowed than there are bytes
-  pub enough : (m n : ℕ) (s : Session) (p : ℕ) (out : List ℕ) (b : Buffers (List ℕ)) → length xs - p ≤ m → length xs - p ≤ n → gatheredFrom m s xs p ended out b ≡ gatheredFrom n s xs p ended out b
-  unfolding gatheredFrom
+  pub enough : (m n : ℕ) (s : Session) (p : ℕ) (out : List ℕ) (b : Buffers (List ℕ)) → length xs - p ≤ m → length xs - p ≤ n → gathered_from m s xs p ended out b ≡ gathered_from n s xs p ended out b
+  unfolding gathered_from
   enough zero n s p out b h k = sym (once n s p out b h)
   enough (suc m) zero s p out b h k = once (suc m) s p out b k
   enough (suc m) (suc n) s p out b h k = let
@@ -83,15 +83,15 @@ module _ (xs : List ℕ) (ended : Bool) where
       in
       same (eqb o.said.step.progress 0) _ _ _ _
       (λ e. let
-      t : Taken xs p o.said.step.next = step-takes s xs p ended out b (eqb-true _ 0 e)
+      t : Taken xs p o.said.step.next = step_takes s xs p ended out b (eqb-true _ 0 e)
       in
-      ap (linesBefore (lineIn o)) (enough m n o.said.step.session o.said.step.next (behindLine o) o.buffers (omega arith) (omega arith)))
+      ap (lines_before (line_in o)) (enough m n o.said.step.session o.said.step.next (behind_line o) o.buffers (omega arith) (omega arith)))
       (λ e. refl)
 
-  stops : (n : ℕ) (s : Session) (p : ℕ) (out : List ℕ) (b : Buffers (List ℕ)) → length xs - p ≤ n → (gatheredFrom n s xs p ended out b).progress ≡ 0 → ⊥
-  unfolding gatheredFrom
+  stops : (n : ℕ) (s : Session) (p : ℕ) (out : List ℕ) (b : Buffers (List ℕ)) → length xs - p ≤ n → (gathered_from n s xs p ended out b).progress ≡ 0 → ⊥
+  unfolding gathered_from
   stops zero s p out b h = λ e. let
-      t : Taken xs p (step_of s xs p ended out b).said.step.next = step-takes s xs p ended out b e
+      t : Taken xs p (step_of s xs p ended out b).said.step.next = step_takes s xs p ended out b e
       in
       omega arith
   stops (suc n) s p out b h = let
@@ -99,13 +99,13 @@ module _ (xs : List ℕ) (ended : Bool) where
       in
       pick-cases (λ (g : Gathered). g.progress ≡ 0 → ⊥) (eqb o.said.step.progress 0) _ _
       (λ q. let
-      t : Taken xs p o.said.step.next = step-takes s xs p ended out b (eqb-true _ 0 q)
+      t : Taken xs p o.said.step.next = step_takes s xs p ended out b (eqb-true _ 0 q)
       in
-      stops n o.said.step.session o.said.step.next (behindLine o) o.buffers (omega arith))
+      stops n o.said.step.session o.said.step.next (behind_line o) o.buffers (omega arith))
       (λ q. eqb-false o.said.step.progress 0 q)
 
-  pub all-gathered : (s : Session) (p : ℕ) (out : List ℕ) (b : Buffers (List ℕ)) → AllGathered s xs p ended out b
-  all-gathered s p out b =
+  pub all_gathered : (s : Session) (p : ℕ) (out : List ℕ) (b : Buffers (List ℕ)) → AllGathered s xs p ended out b
+  all_gathered s p out b =
       record {
         stops = stops (length xs) s p out b (omega arith);
         more = λ n. enough (n + length xs) (length xs) s p out b (omega arith) (omega arith);
@@ -121,84 +121,84 @@ module _ (xs : List ℕ) (ended : Bool) where
   abbrev pub ahead_of : Outcome → List ℕ → Gathered
   ahead_of o out = ahead o.said.step.progress o.said.step.session o.said.step.next out o.buffers
 
-  step-first : (s : Session) (p : ℕ) (out : List ℕ) (b : Buffers (List ℕ)) → linesBefore (lineIn (step_of s xs p ended out b)) (ahead_of (step_of s xs p ended out b) (behindLine (step_of s xs p ended out b))) ≡ gathered s xs p ended out b
-  unfolding ahead gatheredFrom
-  step-first s p out b = let
+  step_first : (s : Session) (p : ℕ) (out : List ℕ) (b : Buffers (List ℕ)) → lines_before (line_in (step_of s xs p ended out b)) (ahead_of (step_of s xs p ended out b) (behind_line (step_of s xs p ended out b))) ≡ gathered s xs p ended out b
+  unfolding ahead gathered_from
+  step_first s p out b = let
       o : Outcome = step_of s xs p ended out b
       in
-      let more : Gathered = gathered o.said.step.session xs o.said.step.next ended (behindLine o) o.buffers in
-      pick-ap (linesBefore (lineIn o)) (eqb o.said.step.progress 0) _ _
+      let more : Gathered = gathered o.said.step.session xs o.said.step.next ended (behind_line o) o.buffers in
+      pick-ap (lines_before (line_in o)) (eqb o.said.step.progress 0) _ _
       ∙ ap
-      (λ (x : List ℕ). pick (eqb o.said.step.progress 0) (linesBefore (lineIn o) more) (withLines (gatheredOnce o) x))
-      (append-nil (lineIn o))
+      (λ (x : List ℕ). pick (eqb o.said.step.progress 0) (lines_before (line_in o) more) (with_lines (gathered_once o) x))
+      (append-nil (line_in o))
       ∙ enough (suc (length xs)) (length xs) s p out b (omega arith) (omega arith)
 
   -- the lines in a slice up to behind that of a step, and the steps ahead
   abbrev pub all_of : ℕ → Outcome → Gathered
-  all_of place o = linesBefore (take place o.said.line) (ahead_of o (drop place o.said.line))
+  all_of place o = lines_before (take place o.said.line) (ahead_of o (drop place o.said.line))
 
-  behind-first :
+  behind_first :
       (filled : ℕ) (s : Session) (p : ℕ) (out : List ℕ) (b : Buffers (List ℕ)) → filled ≤ length out
-      → all_of (filled + (step_of s xs p ended (drop filled out) b).said.step.length) (stepBehind filled s xs p ended out b)
-      ≡ linesBefore (take filled out) (gathered s xs p ended (drop filled out) b)
-  unfolding stepBehind
-  behind-first filled s p out b h = let
+      → all_of (filled + (step_of s xs p ended (drop filled out) b).said.step.length) (step_behind filled s xs p ended out b)
+      ≡ lines_before (take filled out) (gathered s xs p ended (drop filled out) b)
+  unfolding step_behind
+  behind_first filled s p out b h = let
       o : Outcome = step_of s xs p ended (drop filled out) b
       in
       let before : List ℕ = take filled out in
       let size : ℕ = o.said.step.length in
       let place : filled + size ≡ length before + size = omega (arith, length-take-le filled out h) in
-      ap (λ (n : ℕ). all_of n (stepBehind filled s xs p ended out b)) place
+      ap (λ (n : ℕ). all_of n (step_behind filled s xs p ended out b)) place
       ∙ ap
-      (λ (x : List ℕ). linesBefore x (ahead_of o (drop (length before + size) (before ++ o.said.line))))
+      (λ (x : List ℕ). lines_before x (ahead_of o (drop (length before + size) (before ++ o.said.line))))
       (take-append-add before o.said.line size)
-      ∙ ap (λ (x : List ℕ). linesBefore (before ++ lineIn o) (ahead_of o x)) (drop-append-add before o.said.line size)
-      ∙ ap (withLines (ahead_of o (behindLine o))) (append_assoc before (lineIn o) (ahead_of o (behindLine o)).lines)
-      ∙ ap (linesBefore before) (step-first s p (drop filled out) b)
+      ∙ ap (λ (x : List ℕ). lines_before (before ++ line_in o) (ahead_of o x)) (drop-append-add before o.said.line size)
+      ∙ ap (with_lines (ahead_of o (behind_line o))) (append_assoc before (line_in o) (ahead_of o (behind_line o)).lines)
+      ∙ ap (lines_before before) (step_first s p (drop filled out) b)
 
   -- ---- the loop
 
   module _ (s₀ : Session) (p₀ : ℕ) (output₀ memory₀ latches₀ : List ℕ) where
     -- where the loop is: the lines gathered and the steps still to come are all the steps
     pub record Going (output memory latches : List ℕ) (s : Session) (p filled progress : ℕ) : Type 0 where
-      pub all : linesBefore (take filled output) (ahead progress s p (drop filled output) (borrowed memory latches)) ≡ gathered s₀ xs p₀ ended output₀ (borrowed memory₀ latches₀)
+      pub all : lines_before (take filled output) (ahead progress s p (drop filled output) (borrowed memory latches)) ≡ gathered s₀ xs p₀ ended output₀ (borrowed memory₀ latches₀)
       pub fits : filled ≤ length output
-      pub output-size : length output ≡ length output₀
-      pub memory-size : length memory ≡ length memory₀
-      pub latches-size : length latches ≡ length latches₀
+      pub output_size : length output ≡ length output₀
+      pub memory_size : length memory ≡ length memory₀
+      pub latches_size : length latches ≡ length latches₀
 
     pub going_start : Going output₀ memory₀ latches₀ s₀ p₀ 0 0
     unfolding ahead pick
     going_start =
-        record { all = refl; fits = omega arith; output-size = refl; memory-size = refl; latches-size = refl }
+        record { all = refl; fits = omega arith; output_size = refl; memory_size = refl; latches_size = refl }
 
     module _ {output memory latches : List ℕ} {s : Session} {p filled progress : ℕ} (w : Going output memory latches s p filled progress) where
-      module _ {r : Step} {o m l : List ℕ} (goes : progress ≡ 0) (e : (outcome r o m l ≡ stepBehind filled s xs p ended output (borrowed memory latches)) × (filled + r.length ≤ length output)) where
+      module _ {r : Step} {o m l : List ℕ} (goes : progress ≡ 0) (e : (outcome r o m l ≡ step_behind filled s xs p ended output (borrowed memory latches)) × (filled + r.length ≤ length output)) where
         pub going_more : length o ≡ length output → length m ≡ length memory → length l ≡ length latches → Going o m l r.session r.next (filled + r.length) r.progress
-        unfolding ahead pick stepBehind
+        unfolding ahead pick step_behind
         going_more h i j =
             record {
               all =
                   ap (λ (x : Outcome). all_of (filled + x.said.step.length) x) e.0
-                  ∙ behind-first filled s p output (borrowed memory latches) w.fits
-                  ∙ subst (λ (k : ℕ). linesBefore (take filled output) (ahead k s p (drop filled output) (borrowed memory latches)) ≡ gathered s₀ xs p₀ ended output₀ (borrowed memory₀ latches₀)) goes w.all;
+                  ∙ behind_first filled s p output (borrowed memory latches) w.fits
+                  ∙ subst (λ (k : ℕ). lines_before (take filled output) (ahead k s p (drop filled output) (borrowed memory latches)) ≡ gathered s₀ xs p₀ ended output₀ (borrowed memory₀ latches₀)) goes w.all;
               fits = omega (arith, e.1);
-              output-size = h ∙ w.output-size;
-              memory-size = i ∙ w.memory-size;
-              latches-size = j ∙ w.latches-size;
+              output_size = h ∙ w.output_size;
+              memory_size = i ∙ w.memory_size;
+              latches_size = j ∙ w.latches_size;
             }
 
         -- the place comes nearer to the end of the bytes at hand, or the loop ends
-        pub going_less : toGo xs r.progress r.next < toGo xs progress p
-        unfolding toGo stepBehind
+        pub going_less : to_go xs r.progress r.next < to_go xs progress p
+        unfolding to_go step_behind
         going_less = let
-            all : toGo xs progress p ≡ suc (length xs - p) = pick_true _ _ _ (eq-eqb progress 0 goes)
+            all : to_go xs progress p ≡ suc (length xs - p) = pick_true _ _ _ (eq-eqb progress 0 goes)
             in
-            pick-cases (λ (k : ℕ). k < toGo xs progress p) (eqb r.progress 0) _ _
+            pick-cases (λ (k : ℕ). k < to_go xs progress p) (eqb r.progress 0) _ _
             (λ q. let
             t : Taken xs p r.next =
             subst (λ (x : Outcome). x.said.step.progress ≡ 0 → Taken xs p x.said.step.next) (sym e.0)
-            (step-takes s xs p ended (drop filled output) (borrowed memory latches))
+            (step_takes s xs p ended (drop filled output) (borrowed memory latches))
             (eqb-true r.progress 0 q)
             in
             omega (arith, all))
@@ -208,13 +208,13 @@ module _ (xs : List ℕ) (ended : Bool) where
       abbrev answer : ℕ → List ℕ → Left
       answer k x = left (record { session = s; at = p; filled = k; progress = progress }) x memory latches
 
-      pub going_end : (progress ≡ 0 → ⊥) → answer filled output ≡ leftBy (gathered s₀ xs p₀ ended output₀ (borrowed memory₀ latches₀))
+      pub going_end : (progress ≡ 0 → ⊥) → answer filled output ≡ left_by (gathered s₀ xs p₀ ended output₀ (borrowed memory₀ latches₀))
       unfolding ahead
       going_end stops = let
           lines : List ℕ = take filled output
           in
           sym
-          (sym (ap leftBy (ap (linesBefore lines) (sym (pick-false _ _ _ (ne_eqb progress 0 stops))) ∙ w.all))
+          (sym (ap left_by (ap (lines_before lines) (sym (pick-false _ _ _ (ne_eqb progress 0 stops))) ∙ w.all))
           ∙ ap (λ (x : List ℕ). answer (length x) (x ++ drop filled output)) (append-nil lines)
           ∙ ap (λ (k : ℕ). answer k (lines ++ drop filled output)) (length-take-le filled output w.fits)
           ∙ ap (answer filled) (take-append-drop filled output))

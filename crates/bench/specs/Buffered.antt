@@ -3,13 +3,13 @@
 use Rattle.std.specs.Prelude.{ℕ, List, ◌++◌, length, take, drop}
 
 -- so many bytes are at hand
-abbrev pub atHand : ℕ → List ℕ → List ℕ
-atHand have buffer = take have buffer
+abbrev pub at_hand : ℕ → List ℕ → List ℕ
+at_hand have buffer = take have buffer
 
 -- those of them that are not taken, from a place on
-abbrev pub notTaken : ℕ → ℕ → List ℕ → List ℕ
-notTaken at have buffer = drop at (atHand have buffer)
+abbrev pub not_taken : ℕ → ℕ → List ℕ → List ℕ
+not_taken at have buffer = drop at (at_hand have buffer)
 
 -- the buffer with the bytes not taken at its front, in order; behind them it is as it was
 unfoldable pub kept : ℕ → ℕ → List ℕ → List ℕ
-kept at have buffer = notTaken at have buffer ++ drop (length (notTaken at have buffer)) buffer
+kept at have buffer = not_taken at have buffer ++ drop (length (not_taken at have buffer)) buffer

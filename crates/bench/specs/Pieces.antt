@@ -3,13 +3,13 @@
 -- Assumes nothing.
 use Rattle.std.specs.Prelude.{ℕ, ◌+◌, ◌≡◌, Bool, false, List, ◌++◌, drop}
 use Rattle.rules.specs.Buffers.{Buffers}
-use Rattle.session.specs.Steps.{needsBytes}
+use Rattle.session.specs.Steps.{needs_bytes}
 use Rattle.session.specs.declared.step.Session.{Session}
-use Rattle.bench.specs.Working.{Gathered, linesBefore, gathered}
+use Rattle.bench.specs.Working.{Gathered, lines_before, gathered}
 
 -- what steps come to, with a next place that lies so much farther on
-abbrev pub placeFarther : ℕ → Gathered → Gathered
-placeFarther k g =
+abbrev pub place_farther : ℕ → Gathered → Gathered
+place_farther k g =
     record {
       progress = g.progress;
       session = g.session;
@@ -24,6 +24,6 @@ placeFarther k g =
 abbrev pub PiecesGathered : Session → List ℕ → ℕ → List ℕ → Buffers (List ℕ) → List ℕ → Bool → Type 0
 PiecesGathered s xs p out b ys ended =
     let g : Gathered = gathered s xs p false out b in
-    g.progress ≡ needsBytes
+    g.progress ≡ needs_bytes
     → gathered s (xs ++ ys) p ended out b
-    ≡ linesBefore g.lines (placeFarther g.next (gathered g.session (drop g.next (xs ++ ys)) 0 ended g.unused g.buffers))
+    ≡ lines_before g.lines (place_farther g.next (gathered g.session (drop g.next (xs ++ ys)) 0 ended g.unused g.buffers))

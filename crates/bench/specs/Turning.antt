@@ -5,9 +5,9 @@
 use Rattle.std.specs.Prelude.{ℕ, ◌+◌, ◌≤◌, ◌<◌, ◌≡◌, Bool, true, false, List, ◌++◌, eqb, length, take, replicate}
 use Rattle.rules.specs.Choice.{pick}
 use Rattle.rules.specs.Buffers.{Buffers}
-use Rattle.session.specs.Steps.{needsBytes, is_over, sessionAtStart}
-use Rattle.bench.specs.Buffered.{atHand, notTaken}
-use Rattle.bench.specs.Working.{Gathered, gatheredIn}
+use Rattle.session.specs.Steps.{needs_bytes, is_over, session_at_start}
+use Rattle.bench.specs.Buffered.{at_hand, not_taken}
+use Rattle.bench.specs.Working.{Gathered, gathered_in}
 use Rattle.bench.specs.declared.State.{State}
 
 -- the front of the output buffer, up to `filled`, are the lines of all the steps from where the program is, with an output
@@ -16,13 +16,13 @@ pub record AreLines (s : State) (input output : List ℕ) (filled : ℕ) : Type 
   pub before : List ℕ
   pub buffers : Buffers (List ℕ)
   pub size : length before ≡ length output
-  pub lines : take filled output ≡ (gatheredIn s input before buffers).lines
+  pub lines : take filled output ≡ (gathered_in s input before buffers).lines
   pub fits : filled ≤ length output
 
 -- the state behind a read that gave so many bytes, with those at hand that were kept: one that failed stops the program,
 -- and one that gave none is the end of the input
-abbrev pub stateWith : State → Bool → ℕ → ℕ → State
-stateWith s failed old new =
+abbrev pub state_with : State → Bool → ℕ → ℕ → State
+state_with s failed old new =
     record {
       session = s.session;
       at = 0;
@@ -35,17 +35,17 @@ stateWith s failed old new =
 pub record Refilled (s : State) (input : List ℕ) (r : State) (input' : List ℕ) : Type 0 where
   pub failed : Bool
   pub new : List ℕ
-  pub state : r ≡ stateWith s failed (length (notTaken s.at s.have input)) (length new)
-  pub bytes : atHand r.have input' ≡ notTaken s.at s.have input ++ new
+  pub state : r ≡ state_with s failed (length (not_taken s.at s.have input)) (length new)
+  pub bytes : at_hand r.have input' ≡ not_taken s.at s.have input ++ new
 
 -- the state behind steps
-abbrev pub stateBehind : State → Gathered → Bool → State
-stateBehind s g stopped =
+abbrev pub state_behind : State → Gathered → Bool → State
+state_behind s g stopped =
     record { session = g.session; at = g.next; have = s.have; ended = s.ended; stopped = stopped }
 
 -- nothing was read
 abbrev pub Stays : State → Gathered → Bool → List ℕ → State → List ℕ → Type 0
-Stays s g stopped input r input' = (r ≡ stateBehind s g stopped) × (input' ≡ input)
+Stays s g stopped input r input' = (r ≡ state_behind s g stopped) × (input' ≡ input)
 
 -- the program stops where its lines could not be written or the session is over; it reads more bytes where the last step
 -- needs them
@@ -53,7 +53,7 @@ unfoldable pub NextTurn : Bool → State → Gathered → List ℕ → State →
 NextTurn written s g input r input' =
     pick written
     (pick (eqb g.progress is_over) (Stays s g true input r input')
-    (pick (eqb g.progress needsBytes) (Refilled (stateBehind s g s.stopped) input r input') (Stays s g s.stopped input r input')))
+    (pick (eqb g.progress needs_bytes) (Refilled (state_behind s g s.stopped) input r input') (Stays s g s.stopped input r input')))
     (Stays s g true input r input')
 
 -- a turn: the lines at the front of the output buffer, memory and latches are those of the steps
@@ -74,10 +74,10 @@ pub record Holds : Type 0 where
   pub buffers : Buffers (List ℕ)
 
 -- at its start: a session before its first byte, and none at hand
-abbrev pub holdsAtStart : Buffers (List ℕ) → Holds
-holdsAtStart b =
+abbrev pub holds_at_start : Buffers (List ℕ) → Holds
+holds_at_start b =
     record {
-      state = record { session = sessionAtStart; at = 0; have = 0; ended = false; stopped = false };
+      state = record { session = session_at_start; at = 0; have = 0; ended = false; stopped = false };
       input = replicate 65536 0;
       output = replicate 65536 0;
       buffers = b;
@@ -85,7 +85,7 @@ holdsAtStart b =
 
 abbrev pub Turn : Holds → Holds → Type 0
 Turn x y =
-    Turned x.state (gatheredIn x.state x.input x.output x.buffers) x.input y.state y.input y.output y.buffers
+    Turned x.state (gathered_in x.state x.input x.output x.buffers) x.input y.state y.input y.output y.buffers
 
 -- so many turns, each from where the one before ended and did not stop
 pub data Turns : ℕ → Holds → Holds → Type 0 where
@@ -93,13 +93,13 @@ pub data Turns : ℕ → Holds → Holds → Type 0 where
   more : {n : ℕ} {x y z : Holds} → Turns n x y → y.state.stopped ≡ false → Turn y z → Turns (n + 1) x z
 
 -- more turns than the program's count has room for are not made
-abbrev pub mostTurns : ℕ
-mostTurns = 18446744073709551615
+abbrev pub most_turns : ℕ
+most_turns = 18446744073709551615
 
 -- turns from the start until the program stops
 pub record Ran (b b' : Buffers (List ℕ)) : Type 0 where
   pub count : ℕ
   pub last : Holds
-  pub turns : Turns count (holdsAtStart b) last
+  pub turns : Turns count (holds_at_start b) last
   pub buffers : b' ≡ last.buffers
-  pub stops : count < mostTurns → last.state.stopped ≡ true
+  pub stops : count < most_turns → last.state.stopped ≡ true

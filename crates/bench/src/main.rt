@@ -3,8 +3,8 @@
 ghost use Rattle.std.specs.Prelude.{◌+◌, ◌-◌, ◌≤◌, ◌≡◌, length};
 ghost use Rattle.clocking.specs.Answers.{borrowed};
 ghost use Rattle.session.specs.Steps.{outcome};
-ghost use Rattle.bench.specs.Buffered.{atHand, kept};
-ghost use Rattle.bench.specs.Working.{stepBehind, gatheredIn, left, leftBy};
+ghost use Rattle.bench.specs.Buffered.{at_hand, kept};
+ghost use Rattle.bench.specs.Working.{step_behind, gathered_in, left, left_by};
 ghost use Rattle.bench.specs.Turning.{AreLines, Refilled, Turned, Ran};
 
 use libc::{STDIN_FILENO, STDOUT_FILENO};
@@ -73,7 +73,7 @@ fn one_step(
     latches: &mut [u8],
 ) -> Step
     requires { (have ≤ length input.now) × (filled ≤ length output.old) }
-    ensures { (outcome result output.new memory.new latches.new ≡ stepBehind filled session (atHand have input.now) at ended output.old (borrowed memory.old latches.old)) × (filled + result.length ≤ length output.old) }
+    ensures { (outcome result output.new memory.new latches.new ≡ step_behind filled session (at_hand have input.now) at ended output.old (borrowed memory.old latches.old)) × (filled + result.length ≤ length output.old) }
 {
     session.step(
         &input[0..have],
@@ -94,7 +94,7 @@ fn work(
     latches: &mut [u8],
 ) -> Worked
     requires { state.have ≤ length input.now }
-    ensures { left result output.new memory.new latches.new ≡ leftBy (gatheredIn state input.now output.old (borrowed memory.old latches.old)) }
+    ensures { left result output.new memory.new latches.new ≡ left_by (gathered_in state input.now output.old (borrowed memory.old latches.old)) }
 {
     let have = state.have;
     let ended = state.ended;
@@ -151,7 +151,7 @@ fn turn(
     latches: &mut [u8],
 ) -> State
     requires { state.have ≤ length input.old }
-    ensures { Turned state (gatheredIn state input.old output.old (borrowed memory.old latches.old)) input.old result input.new output.new (borrowed memory.new latches.new) }
+    ensures { Turned state (gathered_in state input.old output.old (borrowed memory.old latches.old)) input.old result input.new output.new (borrowed memory.new latches.new) }
 {
     let worked = work(state, input, output, memory, latches);
     let is_written = flush(state, input, output, worked.filled);

@@ -5,24 +5,24 @@ use mathlib.Core.Path.{◌≡◌, refl, sym, ap, ◌∙◌}
 use mathlib.Core.Bool.{true, false}
 use mathlib.Core.List.{List}
 use lib.ListN.{length, set, length-set}
-use Rattle.rules.specs.Clock.{clockOf}
-use Rattle.rules.specs.Buffers.{Buffers, flat, put, byteAt, source, destination, transfer}
-use Rattle.rules.specs.World.{System, buffersAfter, clocked}
-use Rattle.rules.specs.WholeSlots.{movedBy, transferred}
+use Rattle.rules.specs.Clock.{clock_of}
+use Rattle.rules.specs.Buffers.{Buffers, flat, put, byte_at, source, destination, transfer}
+use Rattle.rules.specs.World.{System, buffers_after, clocked}
+use Rattle.rules.specs.WholeSlots.{moved_by, transferred}
 use Rattle.rules.specs.declared.Place.{Place}
 use Rattle.rules.specs.declared.Core.{Core}
 use Rattle.rules.proofs.Choice.{pick_true, pick-false, pick-both}
-use Rattle.rules.proofs.World.{clocked-keeps}
+use Rattle.rules.proofs.World.{clocked_keeps}
 use Rattle.clocking.specs.Answers.{borrowed}
 
-module _ (m l : List ℕ) (from to : Place) {byte : ℕ} (e : byte ≡ byteAt flat from (borrowed m l)) where
-  pub moved-latch : {l' : List ℕ} → to.io ≡ true → l' ≡ set l to.address byte → borrowed m l' ≡ transfer flat from to (borrowed m l)
+module _ (m l : List ℕ) (from to : Place) {byte : ℕ} (e : byte ≡ byte_at flat from (borrowed m l)) where
+  pub moved_latch : {l' : List ℕ} → to.io ≡ true → l' ≡ set l to.address byte → borrowed m l' ≡ transfer flat from to (borrowed m l)
   unfolding put
-  moved-latch io s = ap (borrowed m) (s ∙ ap (set l to.address) e) ∙ sym (pick_true _ _ _ io)
+  moved_latch io s = ap (borrowed m) (s ∙ ap (set l to.address) e) ∙ sym (pick_true _ _ _ io)
 
-  pub moved-byte : {m' : List ℕ} → to.io ≡ false → m' ≡ set m to.address byte → borrowed m' l ≡ transfer flat from to (borrowed m l)
+  pub moved_byte : {m' : List ℕ} → to.io ≡ false → m' ≡ set m to.address byte → borrowed m' l ≡ transfer flat from to (borrowed m l)
   unfolding put
-  moved-byte io s = ap (λ (x : List ℕ). borrowed x l) (s ∙ ap (set m to.address) e) ∙ sym (pick-false _ _ _ io)
+  moved_byte io s = ap (λ (x : List ℕ). borrowed x l) (s ∙ ap (set m to.address) e) ∙ sym (pick-false _ _ _ io)
 
 -- ---- lengths
 
@@ -37,21 +37,21 @@ as_long b = record { memory = refl; latches = refl }
 then : {b d e : Buffers (List ℕ)} → AsLong b d → AsLong d e → AsLong b e
 then p q = record { memory = p.memory ∙ q.memory; latches = p.latches ∙ q.latches }
 
-put-lengths : (p : Place) (byte : ℕ) (b : Buffers (List ℕ)) → AsLong (put flat p byte b) b
+put_lengths : (p : Place) (byte : ℕ) (b : Buffers (List ℕ)) → AsLong (put flat p byte b) b
 unfolding put
-put-lengths p byte b =
+put_lengths p byte b =
     pick-both (λ (x : Buffers (List ℕ)). AsLong x b) _ _ _
     (record { memory = refl; latches = length-set b.latches _ _ })
     (record { memory = length-set b.memory _ _; latches = refl })
 
-pub transferred-lengths : (k : ℕ) (c : Core) (b : Buffers (List ℕ)) → AsLong (transferred flat k c b) b
+pub transferred_lengths : (k : ℕ) (c : Core) (b : Buffers (List ℕ)) → AsLong (transferred flat k c b) b
 unfolding transferred
-transferred-lengths zero c b = as_long b
-transferred-lengths (suc k) c b = then (put-lengths (destination (movedBy k c)) (byteAt flat (source (movedBy k c)) (transferred flat k c b)) (transferred flat k c b)) (transferred-lengths k c b)
+transferred_lengths zero c b = as_long b
+transferred_lengths (suc k) c b = then (put_lengths (destination (moved_by k c)) (byte_at flat (source (moved_by k c)) (transferred flat k c b)) (transferred flat k c b)) (transferred_lengths k c b)
 
-pub clocked-lengths : (n : ℕ) (s : System (List ℕ)) → AsLong (clocked flat n s).world.buffers s.world.buffers
-unfolding buffersAfter
-clocked-lengths n s =
-    clocked-keeps flat (λ (t : System (List ℕ)). AsLong t.world.buffers s.world.buffers)
-    (λ t h. then (pick-both (λ (x : Buffers (List ℕ)). AsLong x t.world.buffers) (clockOf t.world.core).moves _ _ (put-lengths _ _ _) (as_long _)) h)
+pub clocked_lengths : (n : ℕ) (s : System (List ℕ)) → AsLong (clocked flat n s).world.buffers s.world.buffers
+unfolding buffers_after
+clocked_lengths n s =
+    clocked_keeps flat (λ (t : System (List ℕ)). AsLong t.world.buffers s.world.buffers)
+    (λ t h. then (pick-both (λ (x : Buffers (List ℕ)). AsLong x t.world.buffers) (clock_of t.world.core).moves _ _ (put_lengths _ _ _) (as_long _)) h)
     n s (as_long s.world.buffers)

@@ -2,13 +2,13 @@
 -- Assumes nothing.
 use Rattle.std.specs.Prelude.{ℕ, ◌+◌, ◌*◌, ◌-◌, ◌<◌, ◌≡◌, true, false, List, leb, ltb}
 use Rattle.rules.specs.Choice.{pick}
-use Rattle.rules.specs.Ports.{advancedBy}
+use Rattle.rules.specs.Ports.{advanced_by}
 use Rattle.rules.specs.Validity.{most64}
-use Rattle.rules.specs.Clock.{Kind, busClock, withCount, Clock, waitKind}
+use Rattle.rules.specs.Clock.{Kind, bus_clock, with_count, Clock, wait_kind}
 use Rattle.rules.specs.Buffers.{Buffers, flat}
-use Rattle.rules.specs.Spans.{kindCode}
+use Rattle.rules.specs.Spans.{kind_code}
 use Rattle.rules.specs.Slots.{slot_of}
-use Rattle.rules.specs.Stretches.{quiet, elapsedBy}
+use Rattle.rules.specs.Stretches.{quiet, elapsed_by}
 use Rattle.rules.specs.WholeSlots.{transferred}
 use Rattle.rules.specs.declared.Port.{Port}
 use Rattle.rules.specs.declared.Slot.{Slot}
@@ -19,7 +19,7 @@ use Rattle.clocking.specs.declared.stretch.Wait.{Wait}
 
 -- a clock without what the counter held
 abbrev pub tick : Clock → Tick
-tick x = record { kind = kindCode x.kind; moves = x.moves; next = x.next }
+tick x = record { kind = kind_code x.kind; moves = x.moves; next = x.next }
 
 -- the two buffers that a caller lends
 abbrev pub borrowed : List ℕ → List ℕ → Buffers (List ℕ)
@@ -37,10 +37,10 @@ pub record MayRun (c : Core) (budget : ℕ) : Type 0 where
   pub some : 0 < budget
 
 -- n clocks of the slot that runs or begins, if they end before its present stretch does
-unfoldable pub waitAnswer : ℕ → Core → Wait
-waitAnswer n c =
+unfoldable pub wait_answer : ℕ → Core → Wait
+wait_answer n c =
     pick (quiet n (slot_of c))
-    (record { quiet = true; slot = elapsedBy n (slot_of c) })
+    (record { quiet = true; slot = elapsed_by n (slot_of c) })
     (record { quiet = false; slot = slot_of c })
 
 -- a count with n more; where they would not fit 64 bits it stays
@@ -48,16 +48,16 @@ unfoldable pub added : ℕ → ℕ → ℕ
 added count n = pick (leb count (most64 - n)) (count + n) count
 
 -- n clocks of a kind counted, as far as its count has room
-unfoldable pub countedWithin : Kind → ℕ → Clocks → Clocks
-countedWithin kind n k = withCount kind (λ count. added count n) k
+unfoldable pub counted_within : Kind → ℕ → Clocks → Clocks
+counted_within kind n k = with_count kind (λ count. added count n) k
 
 -- the clocks of k slots counted, as far as the counts have room
-abbrev pub slotsCountedWithin : ℕ → Slot → Clocks → Clocks
-slotsCountedWithin k s x =
-    countedWithin (waitKind s.burst) (k * (s.length - s.bus)) (countedWithin busClock (k * s.bus) x)
+abbrev pub slots_counted_within : ℕ → Slot → Clocks → Clocks
+slots_counted_within k s x =
+    counted_within (wait_kind s.burst) (k * (s.length - s.bus)) (counted_within bus_clock (k * s.bus) x)
 
 -- k bytes have moved: the buffers and the ports after them
-pub record BytesMoved (c : Core) (k : ℕ) (before after : Buffers (List ℕ)) (portA portB : Port) : Type 0 where
-  pub a : portA ≡ advancedBy k c.a
-  pub b : portB ≡ advancedBy k c.b
+pub record BytesMoved (c : Core) (k : ℕ) (before after : Buffers (List ℕ)) (port_a port_b : Port) : Type 0 where
+  pub a : port_a ≡ advanced_by k c.a
+  pub b : port_b ≡ advanced_by k c.b
   pub buffers : after ≡ transferred flat k c before

@@ -1,11 +1,11 @@
 // One clock of a slot.
 ghost use Rattle.std.specs.Prelude.{◌≡◌, ◌<◌, [], ◌∷◌, ltb};
 ghost use Rattle.rules.specs.Choice.{every};
-ghost use Rattle.rules.specs.Parts.{withSlot};
-ghost use Rattle.rules.specs.Blocks.{blockCount};
+ghost use Rattle.rules.specs.Parts.{with_slot};
+ghost use Rattle.rules.specs.Blocks.{block_count};
 ghost use Rattle.rules.specs.Slots.{no_slot};
-ghost use Rattle.rules.specs.Clock.{moved, stopped, restarted, movedAt, kind_at, slotEnd, clockEnd, slotClock};
-ghost use Rattle.rules.specs.Spans.{kindCode};
+ghost use Rattle.rules.specs.Clock.{moved, stopped, restarted, moved_at, kind_at, slot_end, clock_end, slot_clock};
+ghost use Rattle.rules.specs.Spans.{kind_code};
 ghost use Rattle.clocking.specs.Answers.{tick};
 
 use parts::{block, part, port, slot};
@@ -41,7 +41,7 @@ fn byte_moved(c: Core) -> Core
 // The core with the byte moved where it moves on the slot's `n`-th clock.
 fn moved_at(n: u16, c: Core) -> Core
     requires { c.block.counter < 4294967295 }
-    ensures { result ≡ movedAt n c }
+    ensures { result ≡ moved_at n c }
 {
     if n == c.slot.bus {
         return byte_moved(c);
@@ -51,7 +51,7 @@ fn moved_at(n: u16, c: Core) -> Core
 
 // The kind of the slot's `n`-th clock.
 pub fn kind_at(n: u16, c: Core) -> u8
-    ensures { result ≡ kindCode (kind_at n c) }
+    ensures { result ≡ kind_code (kind_at n c) }
 {
     if n <= c.slot.bus {
         return rules::BUS;
@@ -64,7 +64,7 @@ pub fn kind_at(n: u16, c: Core) -> u8
 
 // No clock of a slot has elapsed.
 fn slot_cleared(c: Core) -> Core
-    ensures { result ≡ withSlot no_slot c }
+    ensures { result ≡ with_slot no_slot c }
 {
     let none = slot::no_slot();
     part::with_slot(none, c)
@@ -89,7 +89,7 @@ fn restart(c: Core) -> Core
 
 // Auto restart, with a block of some bytes.
 fn restarts(c: Core) -> bool
-    ensures { result ≡ every (c.control.restart ∷ ltb 0 (blockCount c.block) ∷ []) }
+    ensures { result ≡ every (c.control.restart ∷ ltb 0 (block_count c.block) ∷ []) }
 {
     let b = c.block;
     let count = block::block_count(b);
@@ -98,7 +98,7 @@ fn restarts(c: Core) -> bool
 
 // The end of a slot.
 pub fn end_slot(c: Core) -> Core
-    ensures { result ≡ (slotEnd c).core }
+    ensures { result ≡ (slot_end c).core }
 {
     let b = c.block;
     if block::is_finished(b) {
@@ -112,7 +112,7 @@ pub fn end_slot(c: Core) -> Core
 
 // The end of the slot's `n`-th clock.
 fn end_clock(n: u16, c: Core) -> Core
-    ensures { result ≡ (clockEnd n c).core }
+    ensures { result ≡ (clock_end n c).core }
 {
     if n < c.slot.length {
         let mut next = c;
@@ -125,7 +125,7 @@ fn end_clock(n: u16, c: Core) -> Core
 // The `n`-th clock of the running slot.
 pub(crate) fn slot_clock(n: u16, c: Core) -> Tick
     requires { c.block.counter < 4294967295 }
-    ensures { result ≡ tick (slotClock n c) }
+    ensures { result ≡ tick (slot_clock n c) }
 {
     let kind = kind_at(n, c);
     let moves = n == c.slot.bus;

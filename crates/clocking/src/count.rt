@@ -1,7 +1,7 @@
 // Counting clocks.
 ghost use Rattle.std.specs.Prelude.{◌≡◌};
 ghost use Rattle.rules.specs.Spans.{kind_of};
-ghost use Rattle.clocking.specs.Answers.{added, countedWithin};
+ghost use Rattle.clocking.specs.Answers.{added, counted_within};
 
 use parts::valid;
 use rules::Clocks;
@@ -18,14 +18,14 @@ fn more(count: u64, n: u64) -> u64
 
 // `n` clocks of one kind added to its count, which stays where they would not fit.
 pub fn add(kind: u8, n: u32, k: Clocks) -> Clocks
-    ensures { result ≡ countedWithin (kind_of kind) n k }
+    ensures { result ≡ counted_within (kind_of kind) n k }
 {
     add_all(kind, n as u64, k)
 }
 
 // The same for a larger number.
 pub(crate) fn add_all(kind: u8, clocks: u64, k: Clocks) -> Clocks
-    ensures { result ≡ countedWithin (kind_of kind) clocks k }
+    ensures { result ≡ counted_within (kind_of kind) clocks k }
 {
     if kind == rules::BUS {
         let bus = more(k.bus, clocks);

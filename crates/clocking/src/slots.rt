@@ -1,9 +1,9 @@
 // Whole slots at once.
 ghost use Rattle.std.specs.Prelude.{◌≡◌, ◌*◌, ◌-◌};
-ghost use Rattle.rules.specs.Clock.{waitKind};
-ghost use Rattle.rules.specs.Spans.{kindCode};
-ghost use Rattle.rules.specs.WholeSlots.{atSlotStart, slotsWithin};
-ghost use Rattle.clocking.specs.Answers.{borrowed, slotsCountedWithin, BytesMoved};
+ghost use Rattle.rules.specs.Clock.{wait_kind};
+ghost use Rattle.rules.specs.Spans.{kind_code};
+ghost use Rattle.rules.specs.WholeSlots.{at_slot_start, slots_within};
+ghost use Rattle.clocking.specs.Answers.{borrowed, slots_counted_within, BytesMoved};
 
 use crate::{count, place, stretch, transfer};
 use parts::{block, port, slot};
@@ -11,7 +11,7 @@ use rules::{Clocks, Core, Port, Slot};
 
 // At the start of a slot of some clocks.
 fn at_slot_start(c: Core) -> bool
-    ensures { result ≡ atSlotStart c }
+    ensures { result ≡ at_slot_start c }
 {
     let slot = slot::new_slot(c);
     c.enabled & ((c.slot.elapsed == 0) & (0 < slot.length))
@@ -19,7 +19,7 @@ fn at_slot_start(c: Core) -> bool
 
 // The whole slots for which a budget has the clocks and the block the bytes; none but at the start of one.
 pub fn slots_within(c: Core, budget: u32) -> u32
-    ensures { result ≡ slotsWithin c budget }
+    ensures { result ≡ slots_within c budget }
 {
     if at_slot_start(c) {
         let slot = slot::new_slot(c);
@@ -61,7 +61,7 @@ pub fn move_bytes(c: Core, memory: &mut [u8], latches: &mut [u8], k: u32) -> Por
 
 // The kind of a slot's waiting clocks.
 fn wait_kind(burst: bool) -> u8
-    ensures { result ≡ kindCode (waitKind burst) }
+    ensures { result ≡ kind_code (wait_kind burst) }
 {
     if burst {
         return rules::CPU;
@@ -97,7 +97,7 @@ fn wait_of(s: Slot) -> u16
 
 // The clocks of `k` slots counted.
 pub fn count_slots(k: u32, s: Slot, x: Clocks) -> Clocks
-    ensures { result ≡ slotsCountedWithin k s x }
+    ensures { result ≡ slots_counted_within k s x }
 {
     let bus = times(k, s.bus);
     let each = wait_of(s);

@@ -1,6 +1,6 @@
 // The span of clocks that a core answers.
 ghost use Rattle.std.specs.Prelude.{◌≡◌, false};
-ghost use Rattle.rules.specs.Clock.{cpuClock};
+ghost use Rattle.rules.specs.Clock.{cpu_clock};
 ghost use Rattle.rules.specs.Spans.{span, IsLongestSpan};
 ghost use Rattle.clocking.specs.Answers.{room_for, MayRun};
 
@@ -23,7 +23,7 @@ fn room_for(c: Core, budget: u32) -> u32
 
 // Clocks of the processor, which leave the core as it is.
 fn cpu_span(clocks: u32, c: Core) -> Span
-    ensures { result ≡ span cpuClock clocks false c c }
+    ensures { result ≡ span cpu_clock clocks false c c }
 {
     let from = place::source_of(c);
     let to = place::destination_of(c);

@@ -1,7 +1,7 @@
 // The rest of a slot's bus time or of its wait, and clocks that end before it does.
 ghost use Rattle.std.specs.Prelude.{◌≡◌, ◌+◌, ◌<◌};
-ghost use Rattle.rules.specs.Stretches.{least, slotRest, stretchRest, elapsedBy};
-ghost use Rattle.clocking.specs.Answers.{waitAnswer};
+ghost use Rattle.rules.specs.Stretches.{least, slot_rest, stretch_rest, elapsed_by};
+ghost use Rattle.clocking.specs.Answers.{wait_answer};
 
 use parts::slot;
 use rules::{Core, Slot};
@@ -18,7 +18,7 @@ pub(crate) fn least(x: u32, y: u32) -> u32
 
 // The clocks left of a slot, one at least.
 fn slot_rest(s: Slot) -> u32
-    ensures { result ≡ slotRest s }
+    ensures { result ≡ slot_rest s }
 {
     if s.elapsed < s.length {
         let rest = s.length - s.elapsed;
@@ -29,7 +29,7 @@ fn slot_rest(s: Slot) -> u32
 
 // The clocks left of a slot's present stretch.
 pub(crate) fn stretch_rest(s: Slot) -> u32
-    ensures { result ≡ stretchRest s }
+    ensures { result ≡ stretch_rest s }
 {
     let rest = slot_rest(s);
     if s.elapsed < s.bus {
@@ -52,7 +52,7 @@ pub struct Wait {
 // The slot with `n` more clocks elapsed.
 fn elapse(n: u32, s: Slot) -> Slot
     requires { s.elapsed + n < 65536 }
-    ensures { result ≡ elapsedBy n s }
+    ensures { result ≡ elapsed_by n s }
 {
     let some = n as u16;
     let elapsed = s.elapsed + some;
@@ -63,7 +63,7 @@ fn elapse(n: u32, s: Slot) -> Slot
 
 // Of an enabled core: `n` clocks of the slot that runs or begins, if they end before its present stretch does.
 pub fn wait_within(n: u32, c: Core) -> Wait
-    ensures { result ≡ waitAnswer n c }
+    ensures { result ≡ wait_answer n c }
 {
     let slot = slot::slot_of(c);
     let rest = stretch_rest(slot);

@@ -2,9 +2,9 @@
 -- Assumes nothing.
 use mathlib.Core.Path.{refl}
 use Rattle.rules.specs.Opened.{opened}
-use Rattle.rules.proofs.Entries.{empty-wrong}
+use Rattle.rules.proofs.Entries.{empty_wrong}
 use Rattle.examples.specs.ShortLists.{sent, found, must, ListsShown}
 
-pub lists-shown : ListsShown empty-wrong
+pub lists_shown : ListsShown empty_wrong
 unfolding opened sent found must
-lists-shown = refl
+lists_shown = refl

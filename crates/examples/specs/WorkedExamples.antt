@@ -3,13 +3,13 @@
 -- Assumes nothing.
 use Rattle.std.specs.Prelude.{ℕ, ◌*◌, ◌-◌, ◌≡◌, Bool, true, false, List, [], ◌∷◌, ◌++◌}
 use Prim.Native.String.{String}
-use Rattle.rules.specs.Parts.{withCycle, withCounter, withMask, withPosition, withA, with_b, withBlock, withReadback, withPending, in_slot}
+use Rattle.rules.specs.Parts.{with_cycle, with_counter, with_mask, with_position, with_a, with_b, with_block, with_readback, with_pending, in_slot}
 use Rattle.rules.specs.declared.Core.{Core}
-use Rattle.rules.specs.Speed.{atSpeed}
-use Rattle.rules.specs.Slots.{slotLength}
-use Rattle.rules.specs.Floored.{inBurst}
-use Rattle.rules.specs.Bytes.{low_byte, highByte}
-use Rattle.examples.specs.Rows.{Action, Row, row, fill, latch, send, sendWarned, sendRefused, expect, expectRefused, speed, speedRefused, clocks, borrow, counts, memory, latches, pointers, counter, status, enabled, count, suppose, supposeCore, supposeCounts, clocksRefused, floor, figure, changed, nextMove, start, failures}
+use Rattle.rules.specs.Speed.{at_speed}
+use Rattle.rules.specs.Slots.{slot_length}
+use Rattle.rules.specs.Floored.{in_burst}
+use Rattle.rules.specs.Bytes.{low_byte, high_byte}
+use Rattle.examples.specs.Rows.{Action, Row, row, fill, latch, send, send_warned, send_refused, expect, expect_refused, speed, speed_refused, clocks, borrow, counts, memory, latches, pointers, counter, status, enabled, count, suppose, suppose_core, suppose_counts, clocks_refused, floor, figure, changed, next_move, start, failures}
 
 -- the bytes of P1: port A at 1000, four bytes, to port B at 2000, cycles of 2 clocks, continuous
 abbrev pub sheet : List ℕ
@@ -18,8 +18,8 @@ sheet = 0x83 ∷ 0x7D ∷ 0x00 ∷ 0x10 ∷ 0x04 ∷ 0x00 ∷ 0x54 ∷ 0x02 ∷ 
 -- the same bytes for a block from a of n bytes to b, with other bytes after WR2, another WR4 and another WR5
 abbrev pub program : ℕ → ℕ → List ℕ → ℕ → ℕ → ℕ → List ℕ
 program a n timing wr4 b wr5 =
-    0x83 ∷ 0x7D ∷ low_byte a ∷ highByte a ∷ low_byte n ∷ highByte n ∷ 0x54 ∷ 0x02 ∷ 0x50
-    ∷ (timing ++ (wr4 ∷ low_byte b ∷ highByte b ∷ wr5 ∷ 0xCF ∷ 0x87 ∷ []))
+    0x83 ∷ 0x7D ∷ low_byte a ∷ high_byte a ∷ low_byte n ∷ high_byte n ∷ 0x54 ∷ 0x02 ∷ 0x50
+    ∷ (timing ++ (wr4 ∷ low_byte b ∷ high_byte b ∷ wr5 ∷ 0xCF ∷ 0x87 ∷ []))
 
 -- the 24 bytes that select no register, and the commands that do nothing
 abbrev pub idle : List ℕ
@@ -30,17 +30,17 @@ idle =
     ∷ 0xEF ∷ 0xF3 ∷ 0xF7 ∷ 0xFB ∷ 0xFF ∷ []
 
 -- the number of the pending parameters
-abbrev pub pendingNumber : Core → ℕ
-pendingNumber c = c.pending
+abbrev pub pending_number : Core → ℕ
+pending_number c = c.pending
 
 -- in a burst wait with 22 clocks of its slot left: they run on, and with the last of them the block ends and the device is
 -- disabled
-abbrev pub endsWithTheSlot : List Action
-endsWithTheSlot = clocks 21 ∷ enabled true ∷ status 0x3B ∷ clocks 1 ∷ enabled false ∷ status 0x1B ∷ []
+abbrev pub ends_with_the_slot : List Action
+ends_with_the_slot = clocks 21 ∷ enabled true ∷ status 0x3B ∷ clocks 1 ∷ enabled false ∷ status 0x1B ∷ []
 
 -- the speed code
-abbrev pub speedCode : Core → ℕ
-speedCode c = c.control.speed
+abbrev pub speed_code : Core → ℕ
+speed_code c = c.control.speed
 
 -- P1 at a speed: a byte in so many clocks, all of them on the bus
 abbrev pub slowed : String → ℕ → ℕ → Row
@@ -48,7 +48,7 @@ slowed name code bus =
     row name
     (speed code
     ∷ send 0x6B sheet
-    ∷ figure speedCode code
+    ∷ figure speed_code code
     ∷ clocks (bus - 1)
     ∷ counter 0
     ∷ memory 0x2000 (0xE1 ∷ [])
@@ -64,8 +64,8 @@ slowed name code bus =
     ∷ [])
 
 -- P4 at a speed: of the 32 clocks of a byte so many are on the bus, and so many are the processor's
-abbrev pub slowedWithPrescaler : String → ℕ → ℕ → ℕ → Row
-slowedWithPrescaler name code bus cpu =
+abbrev pub slowed_with_prescaler : String → ℕ → ℕ → ℕ → Row
+slowed_with_prescaler name code bus cpu =
     row name
     (speed code
     ∷ send 0x6B (program 0x1000 3 (0x22 ∷ 0x01 ∷ []) 0xCD 0x2000 0x82)
@@ -98,8 +98,8 @@ slowest name prescaler length more on =
     ∷ [])
 
 -- P3: three clocks move nothing, and the bus is held; the fourth moves the byte
-abbrev pub threeClocks : Row
-threeClocks =
+abbrev pub three_clocks : Row
+three_clocks =
     row "P3"
     (send 0x6B sheet
     ∷ clocks 3
@@ -107,8 +107,8 @@ threeClocks =
     ∷ counter 0
     ∷ status 0x3A
     ∷ pointers 0x1000 0x2000
-    ∷ sendRefused 0x6B 0x83 3
-    ∷ expectRefused 0x6B 3
+    ∷ send_refused 0x6B 0x83 3
+    ∷ expect_refused 0x6B 3
     ∷ counts 3 0 0
     ∷ clocks 1
     ∷ memory 0x2000 (0xA1 ∷ 0xE2 ∷ [])
@@ -117,8 +117,8 @@ threeClocks =
     ∷ [])
 
 -- compatibility mode by a parameter: a parameter's port sets the mode; a read's does not
-abbrev pub modeByParameter : Row
-modeByParameter =
+abbrev pub mode_by_parameter : Row
+mode_by_parameter =
     row "compatibility mode by a parameter"
     (send 0x6B (0x65 ∷ [])
     ∷ send 0x0B (0x05 ∷ [])
@@ -169,7 +169,7 @@ table =
     ∷ pointers 0x1005 0x2005
     ∷ expect 0x0B (0x1B ∷ 0x05 ∷ 0x00 ∷ 0x05 ∷ 0x10 ∷ 0x05 ∷ 0x20 ∷ [])
     ∷ [])
-    ∷ threeClocks
+    ∷ three_clocks
     -- P4: prescaler 1 in burst: 32 clocks for each byte, of which the processor has 28
     ∷ row "P4"
     (send 0x6B (program 0x1000 3 (0x22 ∷ 0x01 ∷ []) 0xCD 0x2000 0x82)
@@ -258,12 +258,12 @@ table =
     ∷ [])
     -- P12: a port that is not the device's, also while the bus is held
     ∷ row "P12"
-    (sendRefused 0x006C 0x83 2
-    ∷ expectRefused 0x006C 2
+    (send_refused 0x006C 0x83 2
+    ∷ expect_refused 0x006C 2
     ∷ send 0x6B sheet
-    ∷ sendRefused 0x6B 0x83 3
-    ∷ sendRefused 0x006C 0x83 2
-    ∷ expectRefused 0x006C 2
+    ∷ send_refused 0x6B 0x83 3
+    ∷ send_refused 0x006C 0x83 2
+    ∷ expect_refused 0x006C 2
     ∷ enabled true
     ∷ [])
     -- auto restart: the pointers reload, the counter becomes 0, E falls and the block begins again
@@ -304,7 +304,7 @@ table =
     ∷ clocks 10
     ∷ send 0x6B (0x7D ∷ 0x00 ∷ 0x30 ∷ 0x01 ∷ 0x00 ∷ [])
     ∷ pointers 0x1001 0x2001
-    ∷ (endsWithTheSlot ++
+    ∷ (ends_with_the_slot ++
     (counts 4 0 28
     ∷ memory 0x2000 (0xA1 ∷ 0xE2 ∷ [])
     ∷ expect 0x6B (0x1B ∷ 0x01 ∷ 0x00 ∷ 0x01 ∷ 0x10 ∷ 0x01 ∷ 0x20 ∷ [])
@@ -420,13 +420,13 @@ table =
     ∷ counts 8 0 56
     ∷ memory 0x2000 (0xA1 ∷ 0xA2 ∷ 0xE3 ∷ [])
     ∷ [])
-    ∷ modeByParameter
+    ∷ mode_by_parameter
     -- length 0 in a wait: auto restart with a block count of 0 disables at the end of the slot
     ∷ row "length 0 in a wait"
     (send 0x6B (program 0x1000 2 (0x22 ∷ 0x01 ∷ []) 0xCD 0x2000 0xA2)
     ∷ clocks 10
     ∷ send 0x6B (0x65 ∷ 0x00 ∷ 0x00 ∷ [])
-    ∷ (endsWithTheSlot ++
+    ∷ (ends_with_the_slot ++
     (counts 4 0 28
     ∷ counter 1
     ∷ expect 0x6B (0x1B ∷ 0x01 ∷ [])
@@ -441,7 +441,7 @@ table =
     ∷ clocks 10
     ∷ send 0x6B (0x65 ∷ 0x00 ∷ 0x00 ∷ [])
     ∷ count 0
-    ∷ (endsWithTheSlot ++
+    ∷ (ends_with_the_slot ++
     (clocks 5
     ∷ counter 1
     ∷ pointers 0x1001 0x2001
@@ -455,7 +455,7 @@ table =
     ∷ send 0x6B (0x65 ∷ 0x02 ∷ 0x00 ∷ [])
     ∷ count 2
     ∷ status 0x3B
-    ∷ (endsWithTheSlot ++
+    ∷ (ends_with_the_slot ++
     (clocks 5
     ∷ counter 2
     ∷ counts 8 0 61
@@ -467,7 +467,7 @@ table =
     ∷ clocks 42
     ∷ send 0x6B (0x65 ∷ 0x01 ∷ 0x00 ∷ [])
     ∷ count 1
-    ∷ (endsWithTheSlot ++
+    ∷ (ends_with_the_slot ++
     (counter 2
     ∷ send 0x6B (0x8B ∷ 0x87 ∷ [])
     ∷ enabled false
@@ -521,7 +521,7 @@ table =
     ∷ send 0x6B (0x65 ∷ 0x00 ∷ 0x00 ∷ 0xCF ∷ [])
     ∷ count 0
     ∷ counter 0
-    ∷ (endsWithTheSlot ++
+    ∷ (ends_with_the_slot ++
     (pointers 0x1000 0x2000
     ∷ clocks 5
     ∷ counts 4 0 33
@@ -534,7 +534,7 @@ table =
     ∷ send 0x6B (0x65 ∷ 0x00 ∷ 0x00 ∷ 0xD3 ∷ [])
     ∷ count 0
     ∷ counter 0
-    ∷ (endsWithTheSlot ++
+    ∷ (ends_with_the_slot ++
     (pointers 0x1001 0x2001
     ∷ clocks 5
     ∷ counts 4 0 33
@@ -548,7 +548,7 @@ table =
     ∷ counter 1
     ∷ send 0x6B (0x86 ∷ [])
     ∷ count 1
-    ∷ (endsWithTheSlot ++
+    ∷ (ends_with_the_slot ++
     (clocks 5
     ∷ counts 4 0 33
     ∷ memory 0x2000 (0xA1 ∷ 0xE2 ∷ [])
@@ -646,13 +646,13 @@ table =
     -- timing: codes 11 and 01 with other bits set, WR1 and WR2 without a timing byte, C7 and CB; the prescaler stays
     ∷ row "timing"
     (send 0x6B (0x83 ∷ 0x7D ∷ 0x00 ∷ 0x10 ∷ 0x04 ∷ 0x00 ∷ 0x54 ∷ [])
-    ∷ sendWarned 0x6B 0xFF 2
+    ∷ send_warned 0x6B 0xFF 2
     ∷ send 0x6B (0x50 ∷ 0x5D ∷ 0xAD ∷ 0x00 ∷ 0x20 ∷ 0x82 ∷ 0xCF ∷ 0x87 ∷ [])
     ∷ clocks 6
     ∷ counter 0
     ∷ clocks 1
     ∷ counter 1
-    ∷ sendRefused 0x6B 0x83 3
+    ∷ send_refused 0x6B 0x83 3
     ∷ clocks 21
     ∷ enabled false
     ∷ counts 28 0 0
@@ -682,14 +682,14 @@ table =
     -- WR3 and WR4: bit 6 of WR3 enables or disables whatever its other bits are; WR4 of 11 and of 00 is continuous
     ∷ row "WR3 and WR4"
     (send 0x6B (0x83 ∷ 0x7D ∷ 0x00 ∷ 0x10 ∷ 0x01 ∷ 0x00 ∷ 0x54 ∷ 0x02 ∷ 0x50 ∷ 0x22 ∷ 0x01 ∷ [])
-    ∷ sendWarned 0x6B 0xED 3
+    ∷ send_warned 0x6B 0xED 3
     ∷ send 0x6B (0x00 ∷ 0x20 ∷ 0x82 ∷ 0xCF ∷ 0x87 ∷ [])
-    ∷ sendRefused 0x6B 0x83 3
+    ∷ send_refused 0x6B 0x83 3
     ∷ clocks 4
-    ∷ sendRefused 0x6B 0x83 3
+    ∷ send_refused 0x6B 0x83 3
     ∷ clocks 28
     ∷ counts 4 28 0
-    ∷ sendWarned 0x6B 0x91 3
+    ∷ send_warned 0x6B 0x91 3
     ∷ send 0x6B (0xD3 ∷ 0xFC ∷ [])
     ∷ enabled true
     ∷ clocks 32
@@ -705,24 +705,24 @@ table =
     -- one byte of a number: each parameter leaves the other byte as it was
     ∷ row "one byte of a number"
     (send 0x6B (0x7D ∷ 0x34 ∷ 0x12 ∷ 0x78 ∷ 0x56 ∷ [])
-    ∷ sendWarned 0x6B 0x8D 3
+    ∷ send_warned 0x6B 0x8D 3
     ∷ send 0x6B (0xBC ∷ 0x9A ∷ 0xCF ∷ [])
     ∷ pointers 0x1234 0x9ABC
     ∷ count 0x5678
-    ∷ sendWarned 0x6B 0x0E 1
+    ∷ send_warned 0x6B 0x0E 1
     ∷ send 0x6B (0xFF ∷ 0xCF ∷ [])
     ∷ pointers 0x12FF 0x9ABC
-    ∷ sendWarned 0x6B 0x17 1
+    ∷ send_warned 0x6B 0x17 1
     ∷ send 0x6B (0xEE ∷ 0xCF ∷ [])
     ∷ pointers 0xEEFF 0x9ABC
     ∷ send 0x6B (0x25 ∷ 0xDD ∷ [])
     ∷ count 0x56DD
     ∷ send 0x6B (0x45 ∷ 0xCC ∷ [])
     ∷ count 0xCCDD
-    ∷ sendWarned 0x6B 0x85 3
+    ∷ send_warned 0x6B 0x85 3
     ∷ send 0x6B (0xBB ∷ 0xCF ∷ [])
     ∷ pointers 0xEEFF 0x9ABB
-    ∷ sendWarned 0x6B 0x89 3
+    ∷ send_warned 0x6B 0x89 3
     ∷ send 0x6B (0xAA ∷ 0xCF ∷ [])
     ∷ pointers 0xEEFF 0xAABB
     ∷ send 0x6B (0x4D ∷ 0x00 ∷ 0x00 ∷ 0xCF ∷ [])
@@ -736,35 +736,35 @@ table =
     ∷ borrow 0 0 1 4
     ∷ borrow 65536 65535 1 5
     ∷ borrow 65536 65537 0 5
-    ∷ supposeCounts 18446744073709551600 10 5
+    ∷ suppose_counts 18446744073709551600 10 5
     ∷ borrow 65536 65536 0 0
     ∷ borrow 65536 65536 1 6
     ∷ borrow 65536 0 1 5
     ∷ clocks 0
     ∷ counts 18446744073709551600 10 5
     ∷ send 0x6B sheet
-    ∷ clocksRefused 16 6
+    ∷ clocks_refused 16 6
     ∷ borrow 65535 65536 16 4
     ∷ borrow 65536 65535 16 5
     ∷ counts 18446744073709551600 10 5
     ∷ counter 0
     ∷ memory 0x2000 (0xE1 ∷ [])
-    ∷ supposeCounts 18446744073709551600 10 6
+    ∷ suppose_counts 18446744073709551600 10 6
     ∷ borrow 65535 0 1 1
-    ∷ sendRefused 0x006C 0x83 1
-    ∷ expectRefused 0x6B 1
-    ∷ supposeCounts 18446744073709551600 10 2
+    ∷ send_refused 0x006C 0x83 1
+    ∷ expect_refused 0x6B 1
+    ∷ suppose_counts 18446744073709551600 10 2
     ∷ borrow 65536 65536 4 6
     ∷ borrow 65536 65536 3 0
     ∷ [])
     -- power-on: the seven registers, and a byte moved with no register written but WR4
-    ∷ row "power-on"
+    ∷ row "power_on_lem"
     (fill 0 (0xA1 ∷ 0xA2 ∷ [])
     ∷ fill 0x2000 (0xE1 ∷ 0xE2 ∷ [])
     ∷ count 0
     ∷ counts 0 0 0
     ∷ expect 0x6B (0x3A ∷ 0x00 ∷ 0x00 ∷ 0x00 ∷ 0x00 ∷ 0x00 ∷ 0x00 ∷ 0x3A ∷ [])
-    ∷ sendWarned 0x0B 0x8D 3
+    ∷ send_warned 0x0B 0x8D 3
     ∷ send 0x0B (0x00 ∷ 0x20 ∷ 0xCF ∷ 0x87 ∷ [])
     ∷ pointers 0x0000 0x2000
     ∷ clocks 7
@@ -776,7 +776,7 @@ table =
     ∷ pointers 0x0001 0x2001
     ∷ [])
     -- power-on: continuous, with no WR4 written
-    ∷ row "power-on: continuous"
+    ∷ row "power_on_lem: continuous"
     (send 0x0B (0x50 ∷ 0x20 ∷ 0x01 ∷ 0x87 ∷ [])
     ∷ clocks 32
     ∷ counts 8 24 0
@@ -820,8 +820,8 @@ table =
     ∷ counter 0
     ∷ pointers 0x1000 0x2000
     ∷ status 0x1B
-    ∷ sendRefused 0x6B 0x83 3
-    ∷ expectRefused 0x6B 3
+    ∷ send_refused 0x6B 0x83 3
+    ∷ expect_refused 0x6B 3
     ∷ [])
     -- timing in a wait: the slot keeps its bus time, the next has the new one; code 00 is 4 clocks
     ∷ row "timing in a wait"
@@ -883,156 +883,156 @@ table =
     ∷ [])
     -- ports: only the low byte counts; a refused call sets no mode and moves no position
     ∷ row "ports"
-    (sendRefused 0x6B00 0x83 2
-    ∷ expectRefused 0x0B0C 2
+    (send_refused 0x6B00 0x83 2
+    ∷ expect_refused 0x0B0C 2
     ∷ send 0x126B sheet
     ∷ count 4
-    ∷ sendRefused 0x0B 0x83 3
-    ∷ expectRefused 0x0B 3
+    ∷ send_refused 0x0B 0x83 3
+    ∷ expect_refused 0x0B 3
     ∷ count 4
     ∷ clocks 16
     ∷ expect 0xFF6B (0x1B ∷ [])
-    ∷ expectRefused 0x006C 2
+    ∷ expect_refused 0x006C 2
     ∷ expect 0xFF0B (0x04 ∷ [])
     ∷ send 0x340B (0x83 ∷ [])
     ∷ count 5
     ∷ [])
     -- pending parameters: the number after each byte. WR0's four in one go, the lowest bit first
     ∷ row "WR0 in one go"
-    (figure pendingNumber 0
+    (figure pending_number 0
     ∷ send 0x6B (0x7D ∷ [])
-    ∷ figure pendingNumber 15
+    ∷ figure pending_number 15
     ∷ send 0x6B (0x34 ∷ [])
-    ∷ figure pendingNumber 14
+    ∷ figure pending_number 14
     ∷ figure (λ c. c.a.address) 0x34
     ∷ send 0x6B (0x12 ∷ [])
-    ∷ figure pendingNumber 12
+    ∷ figure pending_number 12
     ∷ figure (λ c. c.a.address) 0x1234
     ∷ send 0x6B (0x78 ∷ [])
-    ∷ figure pendingNumber 8
+    ∷ figure pending_number 8
     ∷ figure (λ c. c.block.length) 0x78
     ∷ send 0x6B (0x56 ∷ [])
-    ∷ figure pendingNumber 0
+    ∷ figure pending_number 0
     ∷ figure (λ c. c.block.length) 0x5678
     ∷ [])
     -- one by one, the last first
     ∷ row "WR0 one by one"
     (send 0x6B (0x45 ∷ [])
-    ∷ figure pendingNumber 8
+    ∷ figure pending_number 8
     ∷ send 0x6B (0x56 ∷ [])
-    ∷ figure pendingNumber 0
+    ∷ figure pending_number 0
     ∷ figure (λ c. c.block.length) 0x5600
     ∷ send 0x6B (0x25 ∷ [])
-    ∷ figure pendingNumber 4
+    ∷ figure pending_number 4
     ∷ send 0x6B (0x78 ∷ [])
-    ∷ figure pendingNumber 0
+    ∷ figure pending_number 0
     ∷ figure (λ c. c.block.length) 0x5678
     ∷ send 0x6B (0x15 ∷ [])
-    ∷ figure pendingNumber 2
+    ∷ figure pending_number 2
     ∷ send 0x6B (0x12 ∷ [])
-    ∷ figure pendingNumber 0
+    ∷ figure pending_number 0
     ∷ figure (λ c. c.a.address) 0x1200
     ∷ send 0x6B (0x0D ∷ [])
-    ∷ figure pendingNumber 1
+    ∷ figure pending_number 1
     ∷ send 0x6B (0x34 ∷ [])
-    ∷ figure pendingNumber 0
+    ∷ figure pending_number 0
     ∷ figure (λ c. c.a.address) 0x1234
     ∷ [])
     -- every other one of the four
     ∷ row "WR0 with gaps"
     (send 0x6B (0x55 ∷ [])
-    ∷ figure pendingNumber 10
+    ∷ figure pending_number 10
     ∷ send 0x6B (0x12 ∷ [])
-    ∷ figure pendingNumber 8
+    ∷ figure pending_number 8
     ∷ send 0x6B (0x56 ∷ 0x2D ∷ [])
-    ∷ figure pendingNumber 5
+    ∷ figure pending_number 5
     ∷ send 0x6B (0x34 ∷ [])
-    ∷ figure pendingNumber 4
+    ∷ figure pending_number 4
     ∷ send 0x6B (0x78 ∷ [])
-    ∷ figure pendingNumber 0
+    ∷ figure pending_number 0
     ∷ figure (λ c. c.a.address) 0x1234
     ∷ figure (λ c. c.block.length) 0x5678
     ∷ [])
     -- WR4's two, and each of them
     ∷ row "WR4's parameters"
     (send 0x6B (0xCD ∷ [])
-    ∷ figure pendingNumber 384
+    ∷ figure pending_number 384
     ∷ send 0x6B (0xBC ∷ [])
-    ∷ figure pendingNumber 256
+    ∷ figure pending_number 256
     ∷ figure (λ c. c.b.address) 0xBC
     ∷ send 0x6B (0x9A ∷ [])
-    ∷ figure pendingNumber 0
+    ∷ figure pending_number 0
     ∷ figure (λ c. c.b.address) 0x9ABC
     ∷ send 0x6B (0xC5 ∷ [])
-    ∷ figure pendingNumber 128
+    ∷ figure pending_number 128
     ∷ send 0x6B (0x01 ∷ 0xC9 ∷ [])
-    ∷ figure pendingNumber 256
+    ∷ figure pending_number 256
     ∷ send 0x6B (0x02 ∷ [])
-    ∷ figure pendingNumber 0
+    ∷ figure pending_number 0
     ∷ figure (λ c. c.b.address) 0x0201
     ∷ [])
     -- a B timing byte with bit 5 set asks for the prescaler, one without it does not, and A timing never does
     ∷ row "prescaler after B timing"
     (send 0x6B (0x44 ∷ [])
-    ∷ figure pendingNumber 16
+    ∷ figure pending_number 16
     ∷ send 0x6B (0x22 ∷ [])
-    ∷ figure pendingNumber 0
+    ∷ figure pending_number 0
     ∷ figure (λ c. c.a.cycle) 2
     ∷ send 0x6B (0x50 ∷ [])
-    ∷ figure pendingNumber 32
+    ∷ figure pending_number 32
     ∷ send 0x6B (0x21 ∷ [])
-    ∷ figure pendingNumber 64
+    ∷ figure pending_number 64
     ∷ figure (λ c. c.b.cycle) 3
     ∷ send 0x6B (0x37 ∷ [])
-    ∷ figure pendingNumber 0
+    ∷ figure pending_number 0
     ∷ figure (λ c. c.control.prescaler) 55
     ∷ send 0x6B (0x50 ∷ 0x02 ∷ [])
-    ∷ figure pendingNumber 0
+    ∷ figure pending_number 0
     ∷ figure (λ c. c.b.cycle) 2
     ∷ figure (λ c. c.control.prescaler) 55
     ∷ [])
     -- a mask; a register's byte, and a command, are a mask as well
     ∷ row "read mask pending"
     (send 0x6B (0xBB ∷ [])
-    ∷ figure pendingNumber 512
+    ∷ figure pending_number 512
     ∷ send 0x6B (0x7D ∷ [])
-    ∷ figure pendingNumber 0
+    ∷ figure pending_number 0
     ∷ figure (λ c. c.readback.mask) 0x7D
     ∷ send 0x6B (0xBB ∷ 0xBB ∷ [])
-    ∷ figure pendingNumber 0
+    ∷ figure pending_number 0
     ∷ figure (λ c. c.readback.mask) 0x3B
     ∷ [])
     -- bytes that ask for nothing leave the number, while nothing is pending; reads, grants and refused calls leave it
     ∷ row "number left alone"
     (send 0x6B (0x05 ∷ 0x04 ∷ 0x00 ∷ 0x80 ∷ [])
-    ∷ sendWarned 0x6B 0x81 3
+    ∷ send_warned 0x6B 0x81 3
     ∷ send 0x6B (0x82 ∷ 0x83 ∷ 0x86 ∷ 0xC3 ∷ [])
-    ∷ figure pendingNumber 0
+    ∷ figure pending_number 0
     ∷ send 0x6B (0x7D ∷ 0x34 ∷ [])
-    ∷ expectRefused 0x006C 2
-    ∷ sendRefused 0x006C 0x55 2
+    ∷ expect_refused 0x006C 2
+    ∷ send_refused 0x006C 0x55 2
     ∷ borrow 65535 65536 1 4
     ∷ clocks 40
     ∷ expect 0x6B (0x3A ∷ [])
-    ∷ figure pendingNumber 14
+    ∷ figure pending_number 14
     ∷ [])
     -- parameters asked for in a burst wait: while the next slot's byte moves they cannot come, and the wait after it takes them
     ∷ row "pending from wait to wait"
     (send 0x6B (program 0x1000 3 (0x22 ∷ 0x01 ∷ []) 0xCD 0x2000 0x82)
-    ∷ figure pendingNumber 0
+    ∷ figure pending_number 0
     ∷ clocks 8
     ∷ send 0x6B (0x3D ∷ [])
-    ∷ figure pendingNumber 7
+    ∷ figure pending_number 7
     ∷ send 0x6B (0x34 ∷ [])
-    ∷ figure pendingNumber 6
+    ∷ figure pending_number 6
     ∷ clocks 25
-    ∷ sendRefused 0x6B 0x12 3
-    ∷ figure pendingNumber 6
+    ∷ send_refused 0x6B 0x12 3
+    ∷ figure pending_number 6
     ∷ clocks 8
     ∷ send 0x6B (0x12 ∷ [])
-    ∷ figure pendingNumber 4
+    ∷ figure pending_number 4
     ∷ send 0x6B (0x02 ∷ [])
-    ∷ figure pendingNumber 0
+    ∷ figure pending_number 0
     ∷ figure (λ c. c.a.address) 0x1234
     ∷ figure (λ c. c.block.length) 2
     ∷ counter 2
@@ -1047,8 +1047,8 @@ table =
     ∷ figure (λ c. c.b.step) 2
     ∷ send 0x6B (0x20 ∷ [])
     ∷ send 0x6B (0xFF ∷ 0x50 ∷ 0x02 ∷ 0xCB ∷ 0x54 ∷ 0x02 ∷ 0xCB ∷ 0x54 ∷ 0x01 ∷ [])
-    ∷ sendWarned 0x6B 0x8D 3
-    ∷ figure (λ c. slotLength c.control.prescaler 4) 8160
+    ∷ send_warned 0x6B 0x8D 3
+    ∷ figure (λ c. slot_length c.control.prescaler 4) 8160
     ∷ figure (λ c. c.a.cycle) 3
     ∷ figure (λ c. c.b.cycle) 4
     ∷ send 0x6B (0x00 ∷ 0x00 ∷ [])
@@ -1065,57 +1065,57 @@ table =
     (fill 0x3000 (0xD1 ∷ [])
     ∷ send 0x0B (0x83 ∷ 0x79 ∷ 0x02 ∷ 0x10 ∷ 0x00 ∷ 0x00 ∷ 0x4C ∷ 0x02 ∷ 0x60 ∷ 0x02 ∷ 0xAD ∷ 0x00 ∷ 0x30 ∷ 0x82 ∷ 0xCF ∷ 0x87 ∷ [])
     ∷ clocks 3
-    ∷ nextMove 0x3000 false 0x1002 true 0xD1
+    ∷ next_move 0x3000 false 0x1002 true 0xD1
     ∷ [])
     -- validity of a core with no slot: each bound from both sides
     ∷ row "validity"
-    (changed (λ c. withA (withCycle 1 c.a) c) false
-    ∷ changed (λ c. withA (withCycle 2 c.a) c) true
-    ∷ changed (λ c. withA (withCycle 5 c.a) c) false
-    ∷ changed (λ c. with_b (withCycle 1 c.b) c) false
-    ∷ changed (λ c. with_b (withCycle 5 c.b) c) false
-    ∷ changed (λ c. withBlock (withCounter 65536 c.block) c) true
-    ∷ changed (λ c. withBlock (withCounter 65537 c.block) c) false
-    ∷ changed (λ c. withReadback (withMask 127 c.readback) c) true
-    ∷ changed (λ c. withReadback (withMask 128 c.readback) c) false
-    ∷ changed (λ c. withReadback (withPosition 6 c.readback) c) true
-    ∷ changed (λ c. withReadback (withPosition 7 c.readback) c) false
-    ∷ changed (atSpeed 0) true
-    ∷ changed (atSpeed 1) true
-    ∷ changed (atSpeed 2) true
-    ∷ changed (atSpeed 4) false
-    ∷ changed (atSpeed 255) false
-    ∷ changed (withPending 15) true
-    ∷ changed (withPending 13) true
-    ∷ changed (withPending 10) true
-    ∷ changed (withPending 1) true
-    ∷ changed (withPending 16) true
-    ∷ changed (withPending 32) true
-    ∷ changed (withPending 64) true
-    ∷ changed (withPending 128) true
-    ∷ changed (withPending 256) true
-    ∷ changed (withPending 384) true
-    ∷ changed (withPending 512) true
-    ∷ changed (withPending 17) false
-    ∷ changed (withPending 24) false
-    ∷ changed (withPending 48) false
-    ∷ changed (withPending 96) false
-    ∷ changed (withPending 80) false
-    ∷ changed (withPending 129) false
-    ∷ changed (withPending 136) false
-    ∷ changed (withPending 192) false
-    ∷ changed (withPending 320) false
-    ∷ changed (withPending 448) false
-    ∷ changed (withPending 513) false
-    ∷ changed (withPending 640) false
-    ∷ changed (withPending 768) false
-    ∷ changed (withPending 896) false
-    ∷ changed (withPending 1024) false
-    ∷ changed (withPending 1025) false
-    ∷ changed (withPending 2048) false
-    ∷ changed (withPending 16384) false
-    ∷ changed (withPending 32768) false
-    ∷ changed (withPending 65535) false
+    (changed (λ c. with_a (with_cycle 1 c.a) c) false
+    ∷ changed (λ c. with_a (with_cycle 2 c.a) c) true
+    ∷ changed (λ c. with_a (with_cycle 5 c.a) c) false
+    ∷ changed (λ c. with_b (with_cycle 1 c.b) c) false
+    ∷ changed (λ c. with_b (with_cycle 5 c.b) c) false
+    ∷ changed (λ c. with_block (with_counter 65536 c.block) c) true
+    ∷ changed (λ c. with_block (with_counter 65537 c.block) c) false
+    ∷ changed (λ c. with_readback (with_mask 127 c.readback) c) true
+    ∷ changed (λ c. with_readback (with_mask 128 c.readback) c) false
+    ∷ changed (λ c. with_readback (with_position 6 c.readback) c) true
+    ∷ changed (λ c. with_readback (with_position 7 c.readback) c) false
+    ∷ changed (at_speed 0) true
+    ∷ changed (at_speed 1) true
+    ∷ changed (at_speed 2) true
+    ∷ changed (at_speed 4) false
+    ∷ changed (at_speed 255) false
+    ∷ changed (with_pending 15) true
+    ∷ changed (with_pending 13) true
+    ∷ changed (with_pending 10) true
+    ∷ changed (with_pending 1) true
+    ∷ changed (with_pending 16) true
+    ∷ changed (with_pending 32) true
+    ∷ changed (with_pending 64) true
+    ∷ changed (with_pending 128) true
+    ∷ changed (with_pending 256) true
+    ∷ changed (with_pending 384) true
+    ∷ changed (with_pending 512) true
+    ∷ changed (with_pending 17) false
+    ∷ changed (with_pending 24) false
+    ∷ changed (with_pending 48) false
+    ∷ changed (with_pending 96) false
+    ∷ changed (with_pending 80) false
+    ∷ changed (with_pending 129) false
+    ∷ changed (with_pending 136) false
+    ∷ changed (with_pending 192) false
+    ∷ changed (with_pending 320) false
+    ∷ changed (with_pending 448) false
+    ∷ changed (with_pending 513) false
+    ∷ changed (with_pending 640) false
+    ∷ changed (with_pending 768) false
+    ∷ changed (with_pending 896) false
+    ∷ changed (with_pending 1024) false
+    ∷ changed (with_pending 1025) false
+    ∷ changed (with_pending 2048) false
+    ∷ changed (with_pending 16384) false
+    ∷ changed (with_pending 32768) false
+    ∷ changed (with_pending 65535) false
     ∷ changed (in_slot 0 4 0 false) false
     ∷ changed (in_slot 0 0 4 false) false
     ∷ changed (in_slot 0 0 0 true) false
@@ -1145,9 +1145,9 @@ table =
     ∷ changed (in_slot 1 64 32 false) false
     ∷ changed (in_slot 1 64 96 true) true
     ∷ changed (in_slot 8159 64 8160 true) true
-    ∷ changed (λ c. withBlock (withCounter 3 c.block) c) false
-    ∷ changed (λ c. withBlock (withCounter 3 c.block) (in_slot 3 4 32 false c)) false
-    ∷ changed (λ c. withBlock (withCounter 3 c.block) (in_slot 4 4 32 false c)) true
+    ∷ changed (λ c. with_block (with_counter 3 c.block) c) false
+    ∷ changed (λ c. with_block (with_counter 3 c.block) (in_slot 3 4 32 false c)) false
+    ∷ changed (λ c. with_block (with_counter 3 c.block) (in_slot 4 4 32 false c)) true
     ∷ [])
     -- auto restart turned off in a wait: the block ends
     ∷ row "auto restart turned off"
@@ -1179,10 +1179,10 @@ table =
     ∷ slowed "7 MHz" 1 16
     ∷ slowed "14 MHz" 2 8
     ∷ slowed "28 MHz" 3 4
-    ∷ slowedWithPrescaler "3.5 MHz, prescaler 1: as long as the bus time" 0 32 0
-    ∷ slowedWithPrescaler "7 MHz, prescaler 1" 1 16 16
-    ∷ slowedWithPrescaler "14 MHz, prescaler 1" 2 8 24
-    ∷ slowedWithPrescaler "28 MHz, prescaler 1" 3 4 28
+    ∷ slowed_with_prescaler "3.5 MHz, prescaler 1: as long as the bus time" 0 32 0
+    ∷ slowed_with_prescaler "7 MHz, prescaler 1" 1 16 16
+    ∷ slowed_with_prescaler "14 MHz, prescaler 1" 2 8 24
+    ∷ slowed_with_prescaler "28 MHz, prescaler 1" 3 4 28
     -- the largest bus time: above 32 clocks, a tie at 64, below 96 and below 8,160
     ∷ slowest "64 clocks, prescaler 1" 1 64 0 false
     ∷ slowest "64 clocks, prescaler 2" 2 64 0 false
@@ -1200,9 +1200,9 @@ table =
     ∷ row "speed in mid slot"
     (send 0x6B (program 0x1000 3 (0x22 ∷ 0x01 ∷ []) 0xCD 0x2000 0x82)
     ∷ clocks 2
-    ∷ sendRefused 0x6B 0x83 3
+    ∷ send_refused 0x6B 0x83 3
     ∷ speed 0
-    ∷ figure speedCode 0
+    ∷ figure speed_code 0
     ∷ figure (λ c. c.slot.bus) 4
     ∷ figure (λ c. c.slot.length) 32
     ∷ clocks 1
@@ -1243,70 +1243,70 @@ table =
     ∷ [])
     -- refused speeds, whoever has the bus; the code, what is pending and the rest stay
     ∷ row "refused speeds"
-    (figure speedCode 3
-    ∷ speedRefused 4 7
-    ∷ speedRefused 255 7
-    ∷ figure speedCode 3
+    (figure speed_code 3
+    ∷ speed_refused 4 7
+    ∷ speed_refused 255 7
+    ∷ figure speed_code 3
     ∷ send 0x6B (0x7D ∷ 0x34 ∷ [])
     ∷ speed 2
-    ∷ speedRefused 4 7
-    ∷ speedRefused 131 7
-    ∷ figure speedCode 2
-    ∷ figure pendingNumber 14
+    ∷ speed_refused 4 7
+    ∷ speed_refused 131 7
+    ∷ figure speed_code 2
+    ∷ figure pending_number 14
     ∷ send 0x6B (0x12 ∷ 0x01 ∷ 0x00 ∷ 0xCF ∷ 0x87 ∷ [])
     ∷ pointers 0x1234 0x0000
-    ∷ speedRefused 5 7
+    ∷ speed_refused 5 7
     ∷ clocks 15
     ∷ enabled true
-    ∷ speedRefused 4 7
+    ∷ speed_refused 4 7
     ∷ clocks 1
     ∷ enabled false
     ∷ counts 16 0 0
     ∷ [])
     -- a device that is not valid: 1, and not 7
     ∷ row "speed of an invalid device"
-    (supposeCounts 18446744073709551615 0 1
-    ∷ speedRefused 0 1
-    ∷ speedRefused 3 1
-    ∷ speedRefused 4 1
-    ∷ supposeCounts 18446744073709551615 0 0
+    (suppose_counts 18446744073709551615 0 1
+    ∷ speed_refused 0 1
+    ∷ speed_refused 3 1
+    ∷ speed_refused 4 1
+    ∷ suppose_counts 18446744073709551615 0 0
     ∷ speed 1
-    ∷ speedRefused 255 7
-    ∷ supposeCore (atSpeed 4)
-    ∷ speedRefused 3 1
-    ∷ speedRefused 4 1
-    ∷ sendRefused 0x6B 0xC3 1
-    ∷ expectRefused 0x6B 1
-    ∷ clocksRefused 0 1
-    ∷ figure speedCode 4
+    ∷ speed_refused 255 7
+    ∷ suppose_core (at_speed 4)
+    ∷ speed_refused 3 1
+    ∷ speed_refused 4 1
+    ∷ send_refused 0x6B 0xC3 1
+    ∷ expect_refused 0x6B 1
+    ∷ clocks_refused 0 1
+    ∷ figure speed_code 4
     ∷ [])
     -- Reset, other commands, register bytes and reads leave the speed
     ∷ row "speed through Reset"
     (speed 1
     ∷ send 0x6B (0xC3 ∷ [])
-    ∷ figure speedCode 1
+    ∷ figure speed_code 1
     ∷ send 0x6B (0x83 ∷ 0xC7 ∷ 0xCB ∷ 0xCF ∷ 0xD3 ∷ 0x8B ∷ 0xA7 ∷ 0xBF ∷ 0x05 ∷ 0x14 ∷ 0x10 ∷ [])
-    ∷ sendWarned 0x6B 0x81 3
+    ∷ send_warned 0x6B 0x81 3
     ∷ send 0x6B (0x82 ∷ [])
-    ∷ figure speedCode 1
+    ∷ figure speed_code 1
     ∷ expect 0x6B (0x3A ∷ 0x3A ∷ [])
-    ∷ figure speedCode 1
+    ∷ figure speed_code 1
     ∷ send 0x6B (0xC3 ∷ sheet)
     ∷ clocks 16
     ∷ counter 1
     ∷ counts 16 0 0
-    ∷ figure speedCode 1
+    ∷ figure speed_code 1
     ∷ [])
     -- warnings. AA of 10 and 11, by both ports, with parameters and without: they transfer as 01 does, which has none
     ∷ row "discouraged operations"
-    (sendWarned 0x6B 0x02 1
-    ∷ sendWarned 0x0B 0x02 1
-    ∷ sendWarned 0x6B 0x03 1
-    ∷ sendWarned 0x0B 0x03 1
+    (send_warned 0x6B 0x02 1
+    ∷ send_warned 0x0B 0x02 1
+    ∷ send_warned 0x6B 0x03 1
+    ∷ send_warned 0x0B 0x03 1
     ∷ send 0x6B (0x01 ∷ 0x05 ∷ [])
-    ∷ sendWarned 0x6B 0x7E 1
+    ∷ send_warned 0x6B 0x7E 1
     ∷ send 0x6B (0x00 ∷ 0x10 ∷ 0x04 ∷ 0x00 ∷ 0x54 ∷ 0x02 ∷ 0x50 ∷ 0x02 ∷ 0xAD ∷ 0x00 ∷ 0x20 ∷ 0x82 ∷ [])
-    ∷ sendWarned 0x6B 0x07 1
+    ∷ send_warned 0x6B 0x07 1
     ∷ send 0x6B (0xCF ∷ 0x87 ∷ [])
     ∷ clocks 16
     ∷ enabled false
@@ -1317,27 +1317,27 @@ table =
     -- 10, nor for WR1 and WR2 themselves
     ∷ row "discouraged timing"
     (send 0x6B (0x44 ∷ 0x02 ∷ 0x44 ∷ [])
-    ∷ sendWarned 0x6B 0x03 2
+    ∷ send_warned 0x6B 0x03 2
     ∷ figure (λ c. c.a.cycle) 4
     ∷ send 0x6B (0x40 ∷ 0x02 ∷ 0x40 ∷ [])
-    ∷ sendWarned 0x0B 0xDF 2
+    ∷ send_warned 0x0B 0xDF 2
     ∷ figure (λ c. c.b.cycle) 4
-    ∷ figure pendingNumber 0
+    ∷ figure pending_number 0
     ∷ send 0x6B (0x40 ∷ [])
-    ∷ sendWarned 0x6B 0x23 2
-    ∷ figure pendingNumber 64
+    ∷ send_warned 0x6B 0x23 2
+    ∷ figure pending_number 64
     ∷ send 0x6B (0x03 ∷ [])
     ∷ figure (λ c. c.control.prescaler) 3
     ∷ send 0x6B (0x44 ∷ 0xFC ∷ 0x44 ∷ 0xFD ∷ 0x44 ∷ 0xFE ∷ 0x40 ∷ 0xDC ∷ 0x40 ∷ 0xDD ∷ 0x40 ∷ 0xDE ∷ 0x7C ∷ 0x00 ∷ 0x78 ∷ 0x00 ∷ [])
     ∷ [])
     -- WR4's modes of 00 and 11, whatever its other bits are; none for 01 and 10, also with 00 or 11 in the other bits
     ∷ row "discouraged modes"
-    (sendWarned 0x6B 0x81 3
-    ∷ sendWarned 0x6B 0xE1 3
-    ∷ sendWarned 0x0B 0x91 3
-    ∷ sendWarned 0x6B 0xF5 3
+    (send_warned 0x6B 0x81 3
+    ∷ send_warned 0x6B 0xE1 3
+    ∷ send_warned 0x0B 0x91 3
+    ∷ send_warned 0x6B 0xF5 3
     ∷ send 0x6B (0x00 ∷ [])
-    ∷ sendWarned 0x6B 0x9D 3
+    ∷ send_warned 0x6B 0x9D 3
     ∷ send 0x6B (0x00 ∷ 0x20 ∷ [])
     ∷ send 0x6B (0xA1 ∷ 0xC1 ∷ 0xB1 ∷ 0xD1 ∷ 0xA5 ∷ 0x00 ∷ 0xC9 ∷ 0x00 ∷ 0xBD ∷ 0x00 ∷ 0x00 ∷ 0xDD ∷ 0x00 ∷ 0x00 ∷ [])
     ∷ [])
@@ -1350,25 +1350,25 @@ table =
     ∷ send 0x6B (0xBB ∷ 0x02 ∷ 0xBB ∷ 0x03 ∷ 0xBB ∷ 0x81 ∷ 0xBB ∷ 0xE1 ∷ [])
     ∷ send 0x6B (0x44 ∷ 0x81 ∷ 0x44 ∷ 0xE1 ∷ 0x40 ∷ 0x81 ∷ 0x40 ∷ 0xE1 ∷ 0xE1 ∷ [])
     ∷ send 0x6B (0x04 ∷ 0x00 ∷ 0x80 ∷ 0x82 ∷ 0x83 ∷ 0xE3 ∷ 0xA2 ∷ 0x86 ∷ 0xE2 ∷ 0xE6 ∷ [])
-    ∷ figure pendingNumber 0
+    ∷ figure pending_number 0
     ∷ [])
     -- a refused write has none, whatever is pending; the same byte has it once it is accepted, in a wait too
     ∷ row "warnings and refusals"
-    (sendRefused 0x006C 0x03 2
+    (send_refused 0x006C 0x03 2
     ∷ send 0x6B (0x44 ∷ [])
-    ∷ sendRefused 0x006C 0x03 2
-    ∷ sendWarned 0x6B 0x03 2
+    ∷ send_refused 0x006C 0x03 2
+    ∷ send_warned 0x6B 0x03 2
     ∷ send 0x6B (program 0x1000 3 (0x22 ∷ 0x01 ∷ []) 0xCD 0x2000 0x82)
-    ∷ sendRefused 0x6B 0x03 3
-    ∷ sendRefused 0x6B 0x81 3
+    ∷ send_refused 0x6B 0x03 3
+    ∷ send_refused 0x6B 0x81 3
     ∷ clocks 10
-    ∷ sendWarned 0x6B 0x81 3
-    ∷ sendWarned 0x6B 0x03 1
+    ∷ send_warned 0x6B 0x81 3
+    ∷ send_warned 0x6B 0x03 1
     ∷ send 0x6B (0x50 ∷ [])
     ∷ clocks 22
-    ∷ sendRefused 0x6B 0x03 3
-    ∷ supposeCounts 18446744073709551615 1 0
-    ∷ sendRefused 0x6B 0x03 1
+    ∷ send_refused 0x6B 0x03 3
+    ∷ suppose_counts 18446744073709551615 1 0
+    ∷ send_refused 0x6B 0x03 1
     ∷ [])
     -- P4 with two bytes: among any five clocks one is the processor's; four clocks of a byte have none, and the block's end changes
     -- nothing, as disabled the device leaves it all clocks; with counts that do not fit there is no floor
@@ -1392,9 +1392,9 @@ table =
     ∷ floor 5
     ∷ clocks 5
     ∷ counts 8 0 62
-    ∷ supposeCounts 18446744073709551615 0 0
+    ∷ suppose_counts 18446744073709551615 0 0
     ∷ floor 5
-    ∷ supposeCounts 18446744073709551615 1 0
+    ∷ suppose_counts 18446744073709551615 1 0
     ∷ floor 0
     ∷ [])
     -- the largest: cycles of 4 + 4 at 3.5 MHz, prescaler 3; with prescaler 2 the slot is no longer than its bus time
@@ -1438,9 +1438,9 @@ table =
     ∷ send 0x6B (0x50 ∷ 0x20 ∷ 0x00 ∷ [])
     ∷ floor 0
     ∷ enabled false
-    ∷ supposeCore (λ c. inBurst 3 2 1 1)
+    ∷ suppose_core (λ c. in_burst 3 2 1 1)
     ∷ floor 5
-    ∷ supposeCore (withPending 0x11)
+    ∷ suppose_core (with_pending 0x11)
     ∷ floor 0
     ∷ [])
     -- blocks of one byte that restart: each is a slot like any other
@@ -1557,19 +1557,19 @@ table =
     ∷ row "floor, a slot of its own"
     (send 0x6B (program 0x1000 3 (0x22 ∷ 0x01 ∷ []) 0xCD 0x2000 0x82)
     ∷ floor 5
-    ∷ supposeCore (in_slot 1 4 32 false)
+    ∷ suppose_core (in_slot 1 4 32 false)
     ∷ floor 0
-    ∷ supposeCore (in_slot 10 4 32 false)
+    ∷ suppose_core (in_slot 10 4 32 false)
     ∷ floor 0
-    ∷ supposeCore (in_slot 1 4 4 true)
+    ∷ suppose_core (in_slot 1 4 4 true)
     ∷ floor 0
-    ∷ supposeCore (in_slot 1 64 96 true)
+    ∷ suppose_core (in_slot 1 64 96 true)
     ∷ floor 65
     ∷ clocks 63
     ∷ counts 63 0 0
     ∷ clocks 1
     ∷ counts 63 0 1
-    ∷ supposeCore (in_slot 1 65 96 true)
+    ∷ suppose_core (in_slot 1 65 96 true)
     ∷ floor 0
     ∷ [])
     -- cycles that differ, and a timing set in a wait: both ports count, in the running slot too
@@ -1655,9 +1655,9 @@ table =
     (send 0x6B (program 0x1000 3 (0x22 ∷ 0x01 ∷ []) 0xCD 0x2000 0x82)
     ∷ floor 5
     ∷ clocks 2
-    ∷ sendRefused 0x6B 0x83 3
-    ∷ expectRefused 0x6B 3
-    ∷ speedRefused 4 7
+    ∷ send_refused 0x6B 0x83 3
+    ∷ expect_refused 0x6B 3
+    ∷ speed_refused 4 7
     ∷ borrow 0 65536 9 4
     ∷ fill 0x1000 (0xB1 ∷ [])
     ∷ floor 5

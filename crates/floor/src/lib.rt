@@ -2,7 +2,7 @@
 ghost use Rattle.std.specs.Prelude.{◌≡◌};
 ghost use Rattle.rules.specs.Slots.{larger};
 ghost use Rattle.rules.specs.Validity.{total};
-ghost use Rattle.rules.specs.Floor.{shared, allShared, floorOf, cpuFloor};
+ghost use Rattle.rules.specs.Floor.{shared, all_shared, floor_of, cpu_floor};
 
 use parts::{slot, valid};
 use rules::{Clocks, Core, Slot};
@@ -26,7 +26,7 @@ fn larger_of(x: u16, y: u16) -> u16
 
 // The processor has clocks of the slot that the registers start, and of the one that runs, or else begins.
 fn all_shared(c: Core) -> bool
-    ensures { result ≡ allShared c }
+    ensures { result ≡ all_shared c }
 {
     let new = slot::new_slot(c);
     let next = slot::slot_of(c);
@@ -35,7 +35,7 @@ fn all_shared(c: Core) -> bool
 
 // One more than the larger of their bus times.
 fn floor_of(c: Core) -> u32
-    ensures { result ≡ floorOf c }
+    ensures { result ≡ floor_of c }
 {
     let new = slot::new_slot(c);
     let next = slot::slot_of(c);
@@ -48,7 +48,7 @@ fn floor_of(c: Core) -> u32
 // claims nothing, if the device is not valid, or if the slot that runs or the one that the registers start, enabled or not, is
 // continuous or no longer than its bus time.
 pub fn cpu_floor(c: Core, k: Clocks) -> u32
-    ensures { result ≡ cpuFloor c (total k) }
+    ensures { result ≡ cpu_floor c (total k) }
 {
     if !valid::is_valid(c, k) {
         return 0;

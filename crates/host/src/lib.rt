@@ -1,17 +1,17 @@
 // The device's calls by value, for C and for Rust. Each hands what it is given to the function that it wraps, and answers the same.
 ghost use Rattle.std.specs.Prelude.{◌≡◌};
 ghost use Rattle.rules.specs.Validity.{valid, total};
-ghost use Rattle.rules.specs.Floor.{cpuFloor};
+ghost use Rattle.rules.specs.Floor.{cpu_floor};
 ghost use Rattle.rules.specs.Buffers.{flat};
-ghost use Rattle.rules.specs.Calls.{writeReply, readReply, speedReply, grant};
-ghost use Rattle.zxndma.specs.Answers.{deviceAtPowerOn, writeAnswer, readAnswer, speedAnswer, systemOf, grantAnswer};
+ghost use Rattle.rules.specs.Calls.{write_reply, read_reply, speed_reply, grant};
+ghost use Rattle.zxndma.specs.Answers.{device_at_power_on, write_answer, read_answer, speed_answer, system_of, grant_answer};
 
 use zxndma::{Device, GrantAnswer, ReadAnswer, SpeedAnswer, WriteAnswer};
 
 // A device as it is when power comes on.
 #[unsafe(no_mangle)]
 pub extern "C" fn zxndma_power_on() -> Device
-    ensures { result ≡ deviceAtPowerOn }
+    ensures { result ≡ device_at_power_on }
 {
     Device::power_on()
 }
@@ -19,7 +19,7 @@ pub extern "C" fn zxndma_power_on() -> Device
 // A byte is written to a port.
 #[unsafe(no_mangle)]
 pub extern "C" fn zxndma_write(device: Device, port: u16, byte: u8) -> WriteAnswer
-    ensures { result ≡ writeAnswer (writeReply device.core device.clocks port byte) }
+    ensures { result ≡ write_answer (write_reply device.core device.clocks port byte) }
 {
     device.write(port, byte)
 }
@@ -27,7 +27,7 @@ pub extern "C" fn zxndma_write(device: Device, port: u16, byte: u8) -> WriteAnsw
 // A byte is read from a port.
 #[unsafe(no_mangle)]
 pub extern "C" fn zxndma_read(device: Device, port: u16) -> ReadAnswer
-    ensures { result ≡ readAnswer (readReply device.core device.clocks port) }
+    ensures { result ≡ read_answer (read_reply device.core device.clocks port) }
 {
     device.read(port)
 }
@@ -35,7 +35,7 @@ pub extern "C" fn zxndma_read(device: Device, port: u16) -> ReadAnswer
 // The speed of the processor becomes that of a code.
 #[unsafe(no_mangle)]
 pub extern "C" fn zxndma_set_speed(device: Device, code: u8) -> SpeedAnswer
-    ensures { result ≡ speedAnswer (speedReply device.core device.clocks code) }
+    ensures { result ≡ speed_answer (speed_reply device.core device.clocks code) }
 {
     device.set_speed(code)
 }
@@ -48,7 +48,7 @@ pub extern "C" fn zxndma_grant(
     latches: &mut [u8],
     clocks: u32,
 ) -> GrantAnswer
-    ensures { grantAnswer result memory.new latches.new ≡ grant flat (systemOf device memory.old latches.old) clocks }
+    ensures { grant_answer result memory.new latches.new ≡ grant flat (system_of device memory.old latches.old) clocks }
 {
     device.grant(memory, latches, clocks)
 }
@@ -65,7 +65,7 @@ pub extern "C" fn zxndma_valid(device: Device) -> bool
 // last of them no port access and no speed call is accepted and nobody changes the device otherwise; at most 65. 0 claims nothing.
 #[unsafe(no_mangle)]
 pub extern "C" fn zxndma_cpu_floor(device: Device) -> u32
-    ensures { result ≡ cpuFloor device.core (total device.clocks) }
+    ensures { result ≡ cpu_floor device.core (total device.clocks) }
 {
     device.cpu_floor()
 }

@@ -62,18 +62,18 @@ borrow κ b o γ = fbor κ (Body (mem R) b o γ)
 abbrev pub IsDevice : Device → Type 0
 IsDevice d = Is R d (vals d)
 
-pub is-device : (d : Device) (vs : List Val) → Is R d vs → IsDevice d
-is-device d vs is = subst (λ (us : List Val). Is R d us) ((Device''.lowers).val_is d vs is) is
+pub is_device : (d : Device) (vs : List Val) → Is R d vs → IsDevice d
+is_device d vs is = subst (λ (us : List Val). Is R d us) ((Device''.lowers).val_is d vs is) is
 
 module _ {M : Type 1} {𝓤 : Ura M} (𝓛 : Logic 𝓤) (d : Device) (is : IsDevice d) where
-  pub device-fits : T (has_ty Device''.mir (Device''.lowered d)) × WT (Device''.lowered d)
-  device-fits = ((LL.lawful Device'.the_type Device''.the_laws 𝓛).typed d _ is).0
+  pub device_fits : T (has_ty Device''.mir (Device''.lowered d)) × WT (Device''.lowered d)
+  device_fits = ((LL.lawful Device'.the_type Device''.the_laws 𝓛).typed d _ is).0
 
-  pub core-fits : T (has_ty Core'.mir (Core'.lowered d.core)) × WT (Core'.lowered d.core)
-  core-fits = ((LL.lawful Core.the_type Core'.the_laws 𝓛).typed d.core _ (LL.owed Device'.the_type Device''.the_laws d _ is).0).0
+  pub core_fits : T (has_ty Core'.mir (Core'.lowered d.core)) × WT (Core'.lowered d.core)
+  core_fits = ((LL.lawful Core.the_type Core'.the_laws 𝓛).typed d.core _ (LL.owed Device'.the_type Device''.the_laws d _ is).0).0
 
-  pub clocks-fit : T (has_ty Clocks'.mir (Clocks'.lowered d.clocks)) × WT (Clocks'.lowered d.clocks)
-  clocks-fit = ((LL.lawful Clocks.the_type Clocks'.the_laws 𝓛).typed d.clocks _ (LL.owed Device'.the_type Device''.the_laws d _ is).1.0).0
+  pub clocks_fit : T (has_ty Clocks'.mir (Clocks'.lowered d.clocks)) × WT (Clocks'.lowered d.clocks)
+  clocks_fit = ((LL.lawful Clocks.the_type Clocks'.the_laws 𝓛).typed d.clocks _ (LL.owed Device'.the_type Device''.the_laws d _ is).1.0).0
 
 module _ {M : Type 1} {𝓤 : Ura M} {𝓛 : Logic 𝓤} {K : Type 0} {Γ : List (Item 𝓤)} {G : Goal 𝓤 𝓛.H} where
   pub had : K → (d : Device) → IsDevice d → Step K 𝓛 (‵ (R.own_val d (vals d)) ∷ Γ) G Γ G
@@ -114,8 +114,8 @@ module _ {M : Type 1} {𝓤 : Ura M} {𝓛 : Logic 𝓤} {K : Type 0} {Γ : List
       (runs C Λ E (seq (assign (place 1 (deref Device''.mir ∷ field 0 ∷ [])) (rv_opd core))
       (seq (assign (place 1 (deref Device''.mir ∷ field 1 ∷ [])) (rv_opd clocks)) rest)) p)
   put_back t h d b o is at_1 at-core at-clocks = step (λ s.
-      assigns t (of_opd t (at-core _)) (from t (hop t (at_1 _) (fld t refl (stop t)))) (store_in t 0 (sub t 0 refl (whole t)) (core-fits 𝓛 d is)) $
-      assigns t (of_opd t (at-clocks _)) (from t (hop t (at_1 _) (fld t refl (stop t)))) (store_in t 0 (sub t 1 refl (whole t)) (clocks-fit 𝓛 d is)) $
+      assigns t (of_opd t (at-core _)) (from t (hop t (at_1 _) (fld t refl (stop t)))) (store_in t 0 (sub t 0 refl (whole t)) (core_fits 𝓛 d is)) $
+      assigns t (of_opd t (at-clocks _)) (from t (hop t (at_1 _) (fld t refl (stop t)))) (store_in t 0 (sub t 1 refl (whole t)) (clocks_fit 𝓛 d is)) $
       s)
 
 pub leaves : {M : Type 1} {𝓤 : Ura M} (𝓛 : Logic 𝓤) (κ : Lft) (q : Share) (γ : GName) (b o : ℕ) (d : Device)

@@ -3,9 +3,9 @@
 // it was. Core and clock counts are put back one by one; what lies between them in memory has no meaning.
 ghost use Rattle.std.specs.Prelude.{◌≡◌};
 ghost use Rattle.rules.specs.Buffers.{flat};
-ghost use Rattle.rules.specs.Calls.{writeReply, readReply, speedReply, grant};
-ghost use Rattle.zxndma.specs.Answers.{writeAnswer, readAnswer, speedAnswer, systemOf, grantAnswer};
-ghost use Rattle.lent.specs.Answers.{asWriteAnswer, asReadAnswer, asSpeedAnswer, asGrantAnswer};
+ghost use Rattle.rules.specs.Calls.{write_reply, read_reply, speed_reply, grant};
+ghost use Rattle.zxndma.specs.Answers.{write_answer, read_answer, speed_answer, system_of, grant_answer};
+ghost use Rattle.lent.specs.Answers.{as_write_answer, as_read_answer, as_speed_answer, as_grant_answer};
 
 use lent::{Given, Written};
 use zxndma::Device;
@@ -13,7 +13,7 @@ use zxndma::Device;
 // A byte is written to a port. Refused with 1, 2 or 3.
 #[unsafe(no_mangle)]
 pub extern "C" fn zxndma_write_in_place(device: &mut Device, port: u16, byte: u8) -> Written
-    ensures { asWriteAnswer result device.new ≡ writeAnswer (writeReply device.old.core device.old.clocks port byte) }
+    ensures { as_write_answer result device.new ≡ write_answer (write_reply device.old.core device.old.clocks port byte) }
 {
     let answer = (*device).write(port, byte);
     device.core = answer.device.core;
@@ -27,7 +27,7 @@ pub extern "C" fn zxndma_write_in_place(device: &mut Device, port: u16, byte: u8
 // A byte is read from a port. Refused with 1, 2 or 3, and then the byte is 0.
 #[unsafe(no_mangle)]
 pub extern "C" fn zxndma_read_in_place(device: &mut Device, port: u16) -> Given
-    ensures { asReadAnswer result device.new ≡ readAnswer (readReply device.old.core device.old.clocks port) }
+    ensures { as_read_answer result device.new ≡ read_answer (read_reply device.old.core device.old.clocks port) }
 {
     let answer = (*device).read(port);
     device.core = answer.device.core;
@@ -41,7 +41,7 @@ pub extern "C" fn zxndma_read_in_place(device: &mut Device, port: u16) -> Given
 // The speed of the processor becomes that of a code. Answers 0 for accepted, else 1 or 7.
 #[unsafe(no_mangle)]
 pub extern "C" fn zxndma_set_speed_in_place(device: &mut Device, code: u8) -> u8
-    ensures { asSpeedAnswer result device.new ≡ speedAnswer (speedReply device.old.core device.old.clocks code) }
+    ensures { as_speed_answer result device.new ≡ speed_answer (speed_reply device.old.core device.old.clocks code) }
 {
     let answer = (*device).set_speed(code);
     device.core = answer.device.core;
@@ -57,7 +57,7 @@ pub extern "C" fn zxndma_grant_in_place(
     latches: &mut [u8],
     clocks: u32,
 ) -> u8
-    ensures { grantAnswer (asGrantAnswer result device.new) memory.new latches.new ≡ grant flat (systemOf device.old memory.old latches.old) clocks }
+    ensures { grant_answer (as_grant_answer result device.new) memory.new latches.new ≡ grant flat (system_of device.old memory.old latches.old) clocks }
 {
     let answer = (*device).grant(memory, latches, clocks);
     device.core = answer.device.core;

@@ -4,8 +4,8 @@ use mathlib.Core.Path.{◌≡◌, ◌∙◌, ap, sym}
 use Rattle.zxndma.specs.Answers.{device}
 use Rattle.lent.specs.Same.{SameAsByValue}
 
-pub same-as-by-value : SameAsByValue
-same-as-by-value = record {
+pub same_as_by_value : SameAsByValue
+same_as_by_value = record {
   write = λ r v d d' port byte e f.
       let s = e ∙ sym f in (ap (λ a. a.number) s, ap (λ a. a.warning) s, ap (λ a. a.device) s);
   read = λ r v d d' port e f.

@@ -9,14 +9,14 @@ use Rattle.zxndma.specs.declared.GrantAnswer.{GrantAnswer}
 use Rattle.lent.specs.declared.Written.{Written}
 use Rattle.lent.specs.declared.Given.{Given}
 
-abbrev pub asWriteAnswer : Written → Device → WriteAnswer
-asWriteAnswer r d = record { number = r.number; warning = r.warning; device = d }
+abbrev pub as_write_answer : Written → Device → WriteAnswer
+as_write_answer r d = record { number = r.number; warning = r.warning; device = d }
 
-abbrev pub asReadAnswer : Given → Device → ReadAnswer
-asReadAnswer r d = record { number = r.number; byte = r.byte; device = d }
+abbrev pub as_read_answer : Given → Device → ReadAnswer
+as_read_answer r d = record { number = r.number; byte = r.byte; device = d }
 
-abbrev pub asSpeedAnswer : ℕ → Device → SpeedAnswer
-asSpeedAnswer n d = record { number = n; device = d }
+abbrev pub as_speed_answer : ℕ → Device → SpeedAnswer
+as_speed_answer n d = record { number = n; device = d }
 
-abbrev pub asGrantAnswer : ℕ → Device → GrantAnswer
-asGrantAnswer n d = record { number = n; device = d }
+abbrev pub as_grant_answer : ℕ → Device → GrantAnswer
+as_grant_answer n d = record { number = n; device = d }

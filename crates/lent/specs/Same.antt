@@ -3,14 +3,14 @@
 -- Assumes nothing.
 use Rattle.std.specs.Prelude.{ℕ, ◌≡◌, List}
 use Rattle.rules.specs.Buffers.{flat}
-use Rattle.rules.specs.Calls.{writeReply, readReply, speedReply, grant}
-use Rattle.zxndma.specs.Answers.{writeAnswer, readAnswer, speedAnswer, systemOf, grantAnswer}
+use Rattle.rules.specs.Calls.{write_reply, read_reply, speed_reply, grant}
+use Rattle.zxndma.specs.Answers.{write_answer, read_answer, speed_answer, system_of, grant_answer}
 use Rattle.zxndma.specs.declared.Device.{Device}
 use Rattle.zxndma.specs.declared.WriteAnswer.{WriteAnswer}
 use Rattle.zxndma.specs.declared.ReadAnswer.{ReadAnswer}
 use Rattle.zxndma.specs.declared.SpeedAnswer.{SpeedAnswer}
 use Rattle.zxndma.specs.declared.GrantAnswer.{GrantAnswer}
-use Rattle.lent.specs.Answers.{asWriteAnswer, asReadAnswer, asSpeedAnswer, asGrantAnswer}
+use Rattle.lent.specs.Answers.{as_write_answer, as_read_answer, as_speed_answer, as_grant_answer}
 use Rattle.lent.specs.declared.Written.{Written}
 use Rattle.lent.specs.declared.Given.{Given}
 
@@ -18,21 +18,21 @@ use Rattle.lent.specs.declared.Given.{Given}
 pub record SameAsByValue : Type 0 where
   pub write :
       (r : Written) (v : WriteAnswer) (d d' : Device) (port byte : ℕ)
-      → asWriteAnswer r d' ≡ writeAnswer (writeReply d.core d.clocks port byte)
-      → v ≡ writeAnswer (writeReply d.core d.clocks port byte)
+      → as_write_answer r d' ≡ write_answer (write_reply d.core d.clocks port byte)
+      → v ≡ write_answer (write_reply d.core d.clocks port byte)
       → (r.number ≡ v.number) × (r.warning ≡ v.warning) × (d' ≡ v.device)
   pub read :
       (r : Given) (v : ReadAnswer) (d d' : Device) (port : ℕ)
-      → asReadAnswer r d' ≡ readAnswer (readReply d.core d.clocks port)
-      → v ≡ readAnswer (readReply d.core d.clocks port)
+      → as_read_answer r d' ≡ read_answer (read_reply d.core d.clocks port)
+      → v ≡ read_answer (read_reply d.core d.clocks port)
       → (r.number ≡ v.number) × (r.byte ≡ v.byte) × (d' ≡ v.device)
   pub speed :
       (r : ℕ) (v : SpeedAnswer) (d d' : Device) (code : ℕ)
-      → asSpeedAnswer r d' ≡ speedAnswer (speedReply d.core d.clocks code)
-      → v ≡ speedAnswer (speedReply d.core d.clocks code)
+      → as_speed_answer r d' ≡ speed_answer (speed_reply d.core d.clocks code)
+      → v ≡ speed_answer (speed_reply d.core d.clocks code)
       → (r ≡ v.number) × (d' ≡ v.device)
   pub granted :
       (r : ℕ) (v : GrantAnswer) (d d' : Device) (m m' m'' l l' l'' : List ℕ) (clocks : ℕ)
-      → grantAnswer (asGrantAnswer r d') m' l' ≡ grant flat (systemOf d m l) clocks
-      → grantAnswer v m'' l'' ≡ grant flat (systemOf d m l) clocks
+      → grant_answer (as_grant_answer r d') m' l' ≡ grant flat (system_of d m l) clocks
+      → grant_answer v m'' l'' ≡ grant flat (system_of d m l) clocks
       → (r ≡ v.number) × (d' ≡ v.device) × (m' ≡ m'') × (l' ≡ l'')

@@ -1,7 +1,7 @@
 // The lines that a session writes. Each function puts its bytes at the front of a borrowed slice, or from a place on, and
 // answers the place behind them.
 ghost use Rattle.std.specs.Prelude.{◌≡◌, [], ◌∷◌, ◌+◌, ◌≤◌, ◌<◌, length};
-ghost use Rattle.lines.specs.Lines.{decimalTo, hexDigit, numberThen, numberLine, writeLine, readLine, recordLine, countsLine, faultLine, Put, PutLine};
+ghost use Rattle.lines.specs.Lines.{decimal_to, hex_digit, number_then, number_line, write_line, read_line, record_line, counts_line, fault_line, Put, PutLine};
 
 use rules::Clocks;
 
@@ -50,7 +50,7 @@ fn digit(n: u64) -> u8
 // The capital hex digit of a number below 16.
 fn hex_digit(n: u8) -> u8
     requires { n < 16 }
-    ensures { result ≡ hexDigit n }
+    ensures { result ≡ hex_digit n }
 {
     if n < 10 {
         return ZERO + n;
@@ -69,7 +69,7 @@ fn put_byte(byte: u8, line: &mut [u8], at: usize) -> usize
 // The decimal digits of a number that has at most so many.
 fn put_decimal(most: usize, n: u64, line: &mut [u8], at: usize) -> usize
     requires { at + most ≤ length line.old }
-    ensures put { Put line.old at (decimalTo most n) line.new result }
+    ensures put { Put line.old at (decimal_to most n) line.new result }
     ensures upper_bound { result ≤ at + most }
 {
     if most == 0 {
@@ -96,7 +96,7 @@ fn put_two(first: u8, second: u8, line: &mut [u8], at: usize) -> usize
 // A number and the byte behind it.
 fn put_number(n: u64, end: u8, line: &mut [u8], at: usize) -> usize
     requires { at + 21 ≤ length line.old }
-    ensures put { Put line.old at (numberThen n end) line.new result }
+    ensures put { Put line.old at (number_then n end) line.new result }
     ensures upper_bound { result ≤ at + 21 }
 {
     let next = put_decimal(DIGITS, n, line, at);
@@ -106,7 +106,7 @@ fn put_number(n: u64, end: u8, line: &mut [u8], at: usize) -> usize
 // A letter, a space, a number.
 fn put_number_line(letter: u8, number: u8, line: &mut [u8]) -> usize
     requires { 72 ≤ length line.old }
-    ensures { Put line.old 0 (numberLine letter number) line.new result }
+    ensures { Put line.old 0 (number_line letter number) line.new result }
 {
     let at = put_two(letter, SPACE, line, 0);
     put_number(wide(number), LINE_FEED, line, at)
@@ -115,7 +115,7 @@ fn put_number_line(letter: u8, number: u8, line: &mut [u8]) -> usize
 // The line of a port write, marked where there is a warning.
 fn put_write_line(number: u8, warning: u8, line: &mut [u8]) -> usize
     requires { 72 ≤ length line.old }
-    ensures { Put line.old 0 (writeLine number warning) line.new result }
+    ensures { Put line.old 0 (write_line number warning) line.new result }
 {
     if warning == 0 {
         return put_number_line(WRITE, number, line);
@@ -128,7 +128,7 @@ fn put_write_line(number: u8, warning: u8, line: &mut [u8]) -> usize
 // The line of a port read: an accepted one with its byte.
 fn put_read_line(number: u8, byte: u8, line: &mut [u8]) -> usize
     requires { 72 ≤ length line.old }
-    ensures { Put line.old 0 (readLine number byte) line.new result }
+    ensures { Put line.old 0 (read_line number byte) line.new result }
 {
     if number == 0 {
         let high = hex_digit(byte / 16);
@@ -144,7 +144,7 @@ fn put_read_line(number: u8, byte: u8, line: &mut [u8]) -> usize
 // The line of a record, by its kind.
 fn record_line(kind: u8, number: u8, byte: u8, warning: u8, line: &mut [u8]) -> usize
     requires { 72 ≤ length line.old }
-    ensures { Put line.old 0 (recordLine kind number byte warning) line.new result }
+    ensures { Put line.old 0 (record_line kind number byte warning) line.new result }
 {
     if kind == records::WRITE {
         return put_write_line(number, warning, line);
@@ -161,7 +161,7 @@ fn record_line(kind: u8, number: u8, byte: u8, warning: u8, line: &mut [u8]) -> 
 // A letter and the three counts.
 fn counts_line(clocks: Clocks, line: &mut [u8]) -> usize
     requires { 72 ≤ length line.old }
-    ensures { Put line.old 0 (countsLine clocks) line.new result }
+    ensures { Put line.old 0 (counts_line clocks) line.new result }
 {
     let at = put_two(COUNTS, SPACE, line, 0);
     let at = put_number(clocks.bus, SPACE, line, at);
@@ -172,7 +172,7 @@ fn counts_line(clocks: Clocks, line: &mut [u8]) -> usize
 // The line of a record of this kind, answered with this number and, for a port read, this byte, for a port write this warning,
 // at the front of `line`. The answer is its length, 0 where there is no room for a line.
 pub fn put_record_line(kind: u8, number: u8, byte: u8, warning: u8, line: &mut [u8]) -> usize
-    ensures { PutLine line.old (recordLine kind number byte warning) line.new result }
+    ensures { PutLine line.old (record_line kind number byte warning) line.new result }
 {
     if line.len() < ROOM {
         return 0;
@@ -182,7 +182,7 @@ pub fn put_record_line(kind: u8, number: u8, byte: u8, warning: u8, line: &mut [
 
 // The last line of a session without a fault, put in the same way.
 pub fn put_counts_line(clocks: Clocks, line: &mut [u8]) -> usize
-    ensures { PutLine line.old (countsLine clocks) line.new result }
+    ensures { PutLine line.old (counts_line clocks) line.new result }
 {
     if line.len() < ROOM {
         return 0;
@@ -192,7 +192,7 @@ pub fn put_counts_line(clocks: Clocks, line: &mut [u8]) -> usize
 
 // The last line of a session with a fault, put in the same way.
 pub fn put_fault_line(number: u8, line: &mut [u8]) -> usize
-    ensures { PutLine line.old (faultLine number) line.new result }
+    ensures { PutLine line.old (fault_line number) line.new result }
 {
     if line.len() < ROOM {
         return 0;

@@ -2,7 +2,7 @@
 ghost use Rattle.std.specs.Prelude.{◌≡◌, ◌<◌};
 ghost use Rattle.std.specs.Int.Count.{count_trailing_zeros};
 ghost use Rattle.rules.specs.Readback.{chosen};
-ghost use Rattle.mask.specs.Ahead.{atOrAfter};
+ghost use Rattle.mask.specs.Ahead.{at_or_after};
 
 // By the position: the registers at or after it, as bits of a mask. The seven entries are bytes of a number, that of position 0
 // the lowest. An array would be built anew in memory at each call.
@@ -11,7 +11,7 @@ const AT_OR_AFTER: u64 = 0x40_60_70_78_7C_7E_7F;
 // The entry of a position.
 fn at_or_after(position: u8) -> u8
     requires { position < 7 }
-    ensures { result ≡ atOrAfter position }
+    ensures { result ≡ at_or_after position }
 {
     ((AT_OR_AFTER >> (8 * position)) % 256) as u8
 }

@@ -1,15 +1,15 @@
 // A core with one part replaced.
 ghost use Rattle.std.specs.Prelude.{◌≡◌};
-ghost use Rattle.rules.specs.Parts.{withA, with_b, withStatus, withReadback, withPending, withSlot};
+ghost use Rattle.rules.specs.Parts.{with_a, with_b, with_status, with_readback, with_pending, with_slot};
 ghost use Rattle.rules.specs.Commands.{disable};
-ghost use Rattle.rules.specs.Speed.{atSpeed};
+ghost use Rattle.rules.specs.Speed.{at_speed};
 
 use crate::slot;
 use rules::{Core, Port, Readback, Slot, Status};
 
 // With another port A.
 pub fn with_a(p: Port, c: Core) -> Core
-    ensures { result ≡ withA p c }
+    ensures { result ≡ with_a p c }
 {
     let mut next = c;
     next.a = p;
@@ -27,7 +27,7 @@ pub fn with_b(p: Port, c: Core) -> Core
 
 // With another status.
 pub fn with_status(s: Status, c: Core) -> Core
-    ensures { result ≡ withStatus s c }
+    ensures { result ≡ with_status s c }
 {
     let mut next = c;
     next.status = s;
@@ -36,7 +36,7 @@ pub fn with_status(s: Status, c: Core) -> Core
 
 // With another read-back state.
 pub fn with_readback(r: Readback, c: Core) -> Core
-    ensures { result ≡ withReadback r c }
+    ensures { result ≡ with_readback r c }
 {
     let mut next = c;
     next.readback = r;
@@ -45,7 +45,7 @@ pub fn with_readback(r: Readback, c: Core) -> Core
 
 // With other parameters pending.
 pub fn with_pending(p: u16, c: Core) -> Core
-    ensures { result ≡ withPending p c }
+    ensures { result ≡ with_pending p c }
 {
     let mut next = c;
     next.pending = p;
@@ -54,7 +54,7 @@ pub fn with_pending(p: u16, c: Core) -> Core
 
 // At another speed.
 pub fn at_speed(code: u8, c: Core) -> Core
-    ensures { result ≡ atSpeed code c }
+    ensures { result ≡ at_speed code c }
 {
     let mut next = c;
     next.control.speed = code;
@@ -63,7 +63,7 @@ pub fn at_speed(code: u8, c: Core) -> Core
 
 // With another slot.
 pub fn with_slot(s: Slot, c: Core) -> Core
-    ensures { result ≡ withSlot s c }
+    ensures { result ≡ with_slot s c }
 {
     let mut next = c;
     next.slot = s;

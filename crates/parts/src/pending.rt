@@ -1,7 +1,7 @@
 // The pending parameters: one number, a bit for each, the lowest set bit the next one. No other module looks into the number:
 // what is next, what is pending after a byte, and whether the number is valid, is all that they ask.
 ghost use Rattle.std.specs.Prelude.{◌≡◌};
-ghost use Rattle.rules.specs.Pending.{next, wr0Asks, timingAsks, wr4Asks, asked, pendingAfterAs, validPending};
+ghost use Rattle.rules.specs.Pending.{next, wr0_asks, timing_asks, wr4_asks, asked, pending_after_as, valid_pending};
 
 use crate::selection;
 
@@ -74,14 +74,14 @@ pub fn next_of(p: u16) -> u16
 
 // What WR0 asks for: bits 3 to 6 are bits 0 to 3 of the number.
 fn wr0_asks(byte: u8) -> u16
-    ensures { result ≡ wr0Asks byte }
+    ensures { result ≡ wr0_asks byte }
 {
     (byte / 8 % 16) as u16
 }
 
 // What WR1 or WR2 asks for, by the timing of its port.
 fn timing_asks(timing: u16, byte: u8) -> u16
-    ensures { result ≡ timingAsks timing byte }
+    ensures { result ≡ timing_asks timing byte }
 {
     if byte / 64 % 2 == 1 {
         return timing;
@@ -91,7 +91,7 @@ fn timing_asks(timing: u16, byte: u8) -> u16
 
 // What WR4 asks for: bits 2 and 3 are bits 7 and 8 of the number.
 fn wr4_asks(byte: u8) -> u16
-    ensures { result ≡ wr4Asks byte }
+    ensures { result ≡ wr4_asks byte }
 {
     (byte / 4 % 4) as u16 * B_LOW
 }
@@ -122,7 +122,7 @@ fn after_register(byte: u8, p: u16) -> u16
 // What is pending after a byte, by what is next: a parameter is used up, and B timing may ask for the prescaler. One above the
 // number leaves nothing.
 pub fn after(parameter: u16, byte: u8, p: u16) -> u16
-    ensures { result ≡ pendingAfterAs parameter byte p }
+    ensures { result ≡ pending_after_as parameter byte p }
 {
     if parameter == NOTHING {
         return after_register(byte, p);
@@ -139,7 +139,7 @@ pub fn after(parameter: u16, byte: u8, p: u16) -> u16
 // The parameters are some of WR0's, some of WR4's, or one of the others alone. From A timing on, the numbers of one alone are the
 // divisors of the last one's, and WR4's two together are all that is left.
 pub fn is_valid(p: u16) -> bool
-    ensures { result ≡ validPending p }
+    ensures { result ≡ valid_pending p }
 {
     if p < A_TIMING {
         return true;

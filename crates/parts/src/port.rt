@@ -1,7 +1,7 @@
 // What is done to a port, once for A and B.
 ghost use Rattle.std.specs.Prelude.{◌≡◌, ◌+◌, ◌%◌};
-ghost use Rattle.rules.specs.Parts.{withPointer};
-ghost use Rattle.rules.specs.Ports.{configured, cycleOf, timed, addressedLow, addressedHigh, resetTiming, loaded, stepped, advanced, stride};
+ghost use Rattle.rules.specs.Parts.{with_pointer};
+ghost use Rattle.rules.specs.Ports.{configured, cycle_of, timed, addressed_low, addressed_high, reset_timing, loaded, stepped, advanced, stride};
 
 use crate::bytes;
 use rules::Port;
@@ -23,7 +23,7 @@ pub fn configure(byte: u8, p: Port) -> Port
 
 // The cycle that a timing byte asks for.
 fn cycle_of(byte: u8) -> u8
-    ensures { result ≡ cycleOf byte }
+    ensures { result ≡ cycle_of byte }
 {
     if byte % 4 == 1 {
         return 3;
@@ -46,7 +46,7 @@ pub fn time(byte: u8, p: Port) -> Port
 
 // The low byte of the starting address.
 pub fn address_low(byte: u8, p: Port) -> Port
-    ensures { result ≡ addressedLow byte p }
+    ensures { result ≡ addressed_low byte p }
 {
     let address = bytes::with_low(byte, p.address);
     let mut next = p;
@@ -56,7 +56,7 @@ pub fn address_low(byte: u8, p: Port) -> Port
 
 // The high byte of the starting address.
 pub fn address_high(byte: u8, p: Port) -> Port
-    ensures { result ≡ addressedHigh byte p }
+    ensures { result ≡ addressed_high byte p }
 {
     let address = bytes::with_high(byte, p.address);
     let mut next = p;
@@ -66,7 +66,7 @@ pub fn address_high(byte: u8, p: Port) -> Port
 
 // The cycle after a reset of the timing.
 pub fn reset_timing(p: Port) -> Port
-    ensures { result ≡ resetTiming p }
+    ensures { result ≡ reset_timing p }
 {
     let mut next = p;
     next.cycle = 4;
@@ -121,7 +121,7 @@ pub fn stride(step: u8) -> u16
 
 // The port with its pointer further by a stride.
 pub fn go_on(p: Port, by: u16) -> Port
-    ensures { result ≡ withPointer ((p.pointer + by) % 65536) p }
+    ensures { result ≡ with_pointer ((p.pointer + by) % 65536) p }
 {
     let pointer = std::num::wrapping_add_u16(p.pointer, by);
     let mut next = p;

@@ -1,13 +1,13 @@
 // The parts as they are when power comes on, and those that a reset puts back.
 ghost use Rattle.std.specs.Prelude.{◌≡◌};
-ghost use Rattle.rules.specs.PowerOn.{portAtPowerOn, statusAtReset, readbackAtReset, powerOn, noClocks};
+ghost use Rattle.rules.specs.PowerOn.{port_at_power_on, status_at_reset, readback_at_reset, power_on, no_clocks};
 
 use crate::{pending, slot, speed};
 use rules::{Block, Clocks, Control, Core, Port, Readback, Status};
 
 // Memory, increment, cycle 4, address and pointer 0.
 fn port() -> Port
-    ensures { result ≡ portAtPowerOn }
+    ensures { result ≡ port_at_power_on }
 {
     Port {
         address: 0,
@@ -20,14 +20,14 @@ fn port() -> Port
 
 // Status 3A: E set, T clear.
 pub fn status_at_reset() -> Status
-    ensures { result ≡ statusAtReset }
+    ensures { result ≡ status_at_reset }
 {
     Status { e: true, t: false }
 }
 
 // Mask 7F, reading from the start, no status read waiting.
 pub fn readback_at_reset() -> Readback
-    ensures { result ≡ readbackAtReset }
+    ensures { result ≡ readback_at_reset }
 {
     Readback {
         mask: 127,
@@ -38,7 +38,7 @@ pub fn readback_at_reset() -> Readback
 
 // A to B, prescaler off, continuous, no auto restart, 28 MHz, zxn mode, disabled, nothing pending.
 pub fn core() -> Core
-    ensures { result ≡ powerOn }
+    ensures { result ≡ power_on }
 {
     let port = port();
     let block = Block {
@@ -71,7 +71,7 @@ pub fn core() -> Core
 
 // No clock has passed.
 pub fn no_clocks() -> Clocks
-    ensures { result ≡ noClocks }
+    ensures { result ≡ no_clocks }
 {
     Clocks {
         bus: 0,

@@ -1,7 +1,7 @@
 // The transfer slot: the one that begins or runs, at the speed that the device has, waiting in it, and who has the bus.
 ghost use Rattle.std.specs.Prelude.{◌≡◌, [], ◌∷◌, ◌==◌, nat_lt};
 ghost use Rattle.rules.specs.Choice.{any};
-ghost use Rattle.rules.specs.Slots.{no_slot, waiting, busHeld, busTimeOf, slotLength, newSlot, slot_of};
+ghost use Rattle.rules.specs.Slots.{no_slot, waiting, bus_held, bus_time_of, slot_length, new_slot, slot_of};
 
 use crate::speed;
 use rules::{Core, Slot};
@@ -20,7 +20,7 @@ pub fn no_slot() -> Slot
 
 // The bus time of a slot that begins.
 fn bus_time(c: Core) -> u16
-    ensures { result ≡ busTimeOf c.control.speed c.a.cycle c.b.cycle }
+    ensures { result ≡ bus_time_of c.control.speed c.a.cycle c.b.cycle }
 {
     let control = c.control;
     let factor = speed::factor_of(control);
@@ -31,7 +31,7 @@ fn bus_time(c: Core) -> u16
 
 // The length of a slot that begins.
 fn slot_length(prescaler: u8, bus: u16) -> u16
-    ensures { result ≡ slotLength prescaler bus }
+    ensures { result ≡ slot_length prescaler bus }
 {
     if prescaler == 0 {
         return bus;
@@ -46,7 +46,7 @@ fn slot_length(prescaler: u8, bus: u16) -> u16
 
 // The slot that the registers start.
 pub fn new_slot(c: Core) -> Slot
-    ensures { result ≡ newSlot c }
+    ensures { result ≡ new_slot c }
 {
     let bus = bus_time(c);
     let length = slot_length(c.control.prescaler, bus);
@@ -78,7 +78,7 @@ fn is_waiting(s: Slot) -> bool
 
 // The device holds the bus.
 pub fn holds_bus(c: Core) -> bool
-    ensures { result ≡ busHeld c }
+    ensures { result ≡ bus_held c }
 {
     let slot = c.slot;
     let waits = is_waiting(slot);

@@ -1,6 +1,6 @@
 // The processor's speed: how many clocks of 28 MHz a clock of a cycle takes.
 ghost use Rattle.std.specs.Prelude.{◌≡◌};
-ghost use Rattle.rules.specs.Speed.{isSpeed, factor};
+ghost use Rattle.rules.specs.Speed.{is_speed, factor};
 
 use rules::Control;
 
@@ -12,7 +12,7 @@ const FACTORS: [u16; 4] = [8, 4, 2, 1];
 
 // A speed code.
 pub fn is_speed(code: u8) -> bool
-    ensures { result ≡ isSpeed code }
+    ensures { result ≡ is_speed code }
 {
     code <= FULL
 }

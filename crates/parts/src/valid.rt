@@ -2,7 +2,7 @@
 // early exits between them: that keeps the whole small enough for a compiler to put it into each call.
 ghost use Rattle.std.specs.Prelude.{◌≡◌, not, [], ◌∷◌, nat_le};
 ghost use Rattle.rules.specs.Choice.{every, means};
-ghost use Rattle.rules.specs.Validity.{prescaledLength, validSlot, validCore, total, most64, valid};
+ghost use Rattle.rules.specs.Validity.{prescaled_length, valid_slot, valid_core, total, most64, valid};
 
 use crate::{block, pending, slot, speed};
 use rules::{Clocks, Core};
@@ -32,7 +32,7 @@ fn valid_readback(mask: u8, position: u8) -> bool
 
 // A multiple of 32 from 32 to 8,160.
 fn prescaled_length(n: u16) -> bool
-    ensures { result ≡ prescaledLength n }
+    ensures { result ≡ prescaled_length n }
 {
     (32 <= n) & ((n <= MOST_LENGTH) & (n % 32 == 0))
 }
@@ -40,7 +40,7 @@ fn prescaled_length(n: u16) -> bool
 // With no clock elapsed the slot's figures are 0 and continuous; with clocks elapsed the device is enabled, the bus time and the
 // length are within their bounds, and the length is not reached.
 fn valid_slot(enabled: bool, elapsed: u16, bus: u16, length: u16, burst: bool) -> bool
-    ensures { result ≡ validSlot enabled (record { elapsed = elapsed; bus = bus; length = length; burst = burst }) }
+    ensures { result ≡ valid_slot enabled (record { elapsed = elapsed; bus = bus; length = length; burst = burst }) }
 {
     if elapsed == 0 {
         return (bus == 0) & ((length == 0) & !burst);
@@ -59,7 +59,7 @@ fn valid_progress(enabled: bool, unmoved: bool, finished: bool) -> bool
 
 // The core is valid.
 fn valid_core(c: Core) -> bool
-    ensures { result ≡ validCore c }
+    ensures { result ≡ valid_core c }
 {
     let a = valid_cycle(c.a.cycle);
     let b = valid_cycle(c.b.cycle);

@@ -1,6 +1,6 @@
 // Warnings: a byte holds a value that programs should not use. It acts all the same; the warning is answered beside.
 ghost use Rattle.std.specs.Prelude.{◌≡◌, ◌≢◌};
-ghost use Rattle.rules.specs.Warnings.{warningAs};
+ghost use Rattle.rules.specs.Warnings.{warning_as};
 
 use crate::{pending, selection};
 
@@ -19,7 +19,7 @@ pub const MODE: u8 = 3;
 // The warning of a byte as this parameter.
 fn of_parameter(parameter: u16, byte: u8) -> u8
     requires { parameter ≢ 0 }
-    ensures { result ≡ warningAs parameter byte }
+    ensures { result ≡ warning_as parameter byte }
 {
     if ((parameter == pending::A_TIMING) | (parameter == pending::B_TIMING)) & (byte % 4 == 3) {
         return TIMING;
@@ -29,7 +29,7 @@ fn of_parameter(parameter: u16, byte: u8) -> u8
 
 // The warning of a byte by the register that it selects.
 fn of_register(byte: u8) -> u8
-    ensures { result ≡ warningAs 0 byte }
+    ensures { result ≡ warning_as 0 byte }
 {
     let register = selection::register_of(byte);
     let operation = byte % 4;
@@ -45,7 +45,7 @@ fn of_register(byte: u8) -> u8
 
 // The warning of a byte, by what is next.
 pub fn of(parameter: u16, byte: u8) -> u8
-    ensures { result ≡ warningAs parameter byte }
+    ensures { result ≡ warning_as parameter byte }
 {
     if parameter == pending::NOTHING {
         return of_register(byte);

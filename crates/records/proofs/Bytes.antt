@@ -13,10 +13,10 @@ byte_small [] h i = omega arith
 byte_small (x ∷ xs) h zero = h.0
 byte_small (x ∷ xs) h (suc i) = byte_small xs h.1 i
 
-pub bytes-join : (xs ys : List ℕ) → AreBytes xs → AreBytes ys → AreBytes (xs ++ ys)
+pub bytes_join : (xs ys : List ℕ) → AreBytes xs → AreBytes ys → AreBytes (xs ++ ys)
 unfolding AreBytes
-bytes-join [] ys h g = g
-bytes-join (x ∷ xs) ys h g = (h.0, bytes-join xs ys h.1 g)
+bytes_join [] ys h g = g
+bytes_join (x ∷ xs) ys h g = (h.0, bytes_join xs ys h.1 g)
 
 pub bytes_take : (n : ℕ) (xs : List ℕ) → AreBytes xs → AreBytes (take n xs)
 unfolding AreBytes

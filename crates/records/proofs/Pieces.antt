@@ -11,11 +11,11 @@ use lib.Dec.{eqb, leb, ltb}
 use lib.ListN.{length, get_or, length-append}
 use Rattle.rules.specs.Choice.{pick}
 use Rattle.rules.proofs.Choice.{pick-false, pick-both, pick-cases, either}
-use Rattle.records.specs.Records.{none, short, behind, writeRecord, readRecord, grantRecord, memoryRecord, ofKind, recordAt, longLength}
+use Rattle.records.specs.Records.{none, short, behind, write_record, read_record, grant_record, memory_record, of_kind, record_at, long_length}
 use Rattle.records.specs.BigEndian.{word}
 use Rattle.records.specs.declared.Record.{Record}
 use Rattle.records.proofs.Choosing.{same}
-use Rattle.records.proofs.BigEndian.{byte-stays, number-stays}
+use Rattle.records.proofs.BigEndian.{byte_stays, number_stays}
 
 -- the bytes of a record for the memory are at hand
 unfoldable pub Within : List ℕ → Record → Type 0
@@ -26,29 +26,29 @@ module _ (xs ys : List ℕ) where
   longer = omega (arith, length-append xs ys)
 
   module _ (p : ℕ) where
-    kind-stays : (n k : ℕ) → p + 2 + n ≤ length xs → ofKind (xs ++ ys) p n k ≡ ofKind xs p n k
-    unfolding ofKind writeRecord readRecord grantRecord memoryRecord
-    kind-stays n k h =
+    kind_stays : (n k : ℕ) → p + 2 + n ≤ length xs → of_kind (xs ++ ys) p n k ≡ of_kind xs p n k
+    unfolding of_kind write_record read_record grant_record memory_record
+    kind_stays n k h =
         same (eqb k 1) _ _ _ _
         (λ e. same (eqb n 4) _ _ _ _
         (λ f. let
         z : n ≡ 4 = eqb-true n 4 f
         in
-        simp (number-stays 2 xs ys (p + 3) (omega arith), byte-stays xs ys (p + 5) (omega arith)))
+        simp (number_stays 2 xs ys (p + 3) (omega arith), byte_stays xs ys (p + 5) (omega arith)))
         (λ f. refl))
         (λ e. same (eqb k 2) _ _ _ _
         (λ e. same (eqb n 3) _ _ _ _
         (λ f. let
         z : n ≡ 3 = eqb-true n 3 f
         in
-        simp (number-stays 2 xs ys (p + 3) (omega arith)))
+        simp (number_stays 2 xs ys (p + 3) (omega arith)))
         (λ f. refl))
         (λ e. same (eqb k 3) _ _ _ _
         (λ e. same (eqb n 5) _ _ _ _
         (λ f. let
         z : n ≡ 5 = eqb-true n 5 f
         in
-        simp (number-stays 4 xs ys (p + 3) (omega arith)))
+        simp (number_stays 4 xs ys (p + 3) (omega arith)))
         (λ f. refl))
         (λ e. same (eqb k 4) _ _ _ _
         (λ e. same (ltb n 4) _ _ _ _ (λ f. refl)
@@ -56,67 +56,67 @@ module _ (xs ys : List ℕ) where
         (λ g. let
         z : 4 ≤ n = ltb-false n 4 f
         in
-        simp (number-stays 2 xs ys (p + 3) (omega arith)))))
+        simp (number_stays 2 xs ys (p + 3) (omega arith)))))
         (λ e. refl))))
 
     -- what stands at a place where more bytes may come and are not needed: its length is there, and all of its bytes
     pub record Whole : Type 0 where
-      pub length-there : p + 2 ≤ length xs
-      pub bytes-there : p + 2 + word xs p ≤ length xs
+      pub length_there : p + 2 ≤ length xs
+      pub bytes_there : p + 2 + word xs p ≤ length xs
 
-    pub waits-behind : leb (length xs) p ≡ true → recordAt xs p false ≡ none 0 p
-    unfolding recordAt behind pick
-    waits-behind e = simp e
+    pub waits_behind : leb (length xs) p ≡ true → record_at xs p false ≡ none 0 p
+    unfolding record_at behind pick
+    waits_behind e = simp e
 
-    pub waits-length : leb (length xs) p ≡ false → leb (length xs) (p + 1) ≡ true → recordAt xs p false ≡ none 0 p
-    unfolding recordAt short pick
-    waits-length e g = simp (e, g)
+    pub waits_length : leb (length xs) p ≡ false → leb (length xs) (p + 1) ≡ true → record_at xs p false ≡ none 0 p
+    unfolding record_at short pick
+    waits_length e g = simp (e, g)
 
-    pub waits-bytes : leb (length xs) p ≡ false → leb (length xs) (p + 1) ≡ false → ltb (length xs - (p + 2)) (word xs p) ≡ true → recordAt xs p false ≡ none 0 p
-    unfolding recordAt short pick
-    waits-bytes e g h = simp (e, g, h)
+    pub waits_bytes : leb (length xs) p ≡ false → leb (length xs) (p + 1) ≡ false → ltb (length xs - (p + 2)) (word xs p) ≡ true → record_at xs p false ≡ none 0 p
+    unfolding record_at short pick
+    waits_bytes e g h = simp (e, g, h)
 
-    pub whole : ((recordAt xs p false).number ≡ 0 → ⊥) → Whole
+    pub whole : ((record_at xs p false).number ≡ 0 → ⊥) → Whole
     whole f =
-        either (leb (length xs) p) (λ e. absurd (f (ap (λ (r : Record). r.number) (waits-behind e))))
-        (λ e. either (leb (length xs) (p + 1)) (λ g. absurd (f (ap (λ (r : Record). r.number) (waits-length e g))))
-        (λ g. either (ltb (length xs - (p + 2)) (word xs p)) (λ h. absurd (f (ap (λ (r : Record). r.number) (waits-bytes e g h))))
+        either (leb (length xs) p) (λ e. absurd (f (ap (λ (r : Record). r.number) (waits_behind e))))
+        (λ e. either (leb (length xs) (p + 1)) (λ g. absurd (f (ap (λ (r : Record). r.number) (waits_length e g))))
+        (λ g. either (ltb (length xs - (p + 2)) (word xs p)) (λ h. absurd (f (ap (λ (r : Record). r.number) (waits_bytes e g h))))
         (λ h. record {
-          length-there = omega (arith, leb-false (length xs) (p + 1) g);
-          bytes-there = omega (arith, leb-false (length xs) (p + 1) g, ltb-false (length xs - (p + 2)) (word xs p) h);
+          length_there = omega (arith, leb-false (length xs) (p + 1) g);
+          bytes_there = omega (arith, leb-false (length xs) (p + 1) g, ltb-false (length xs - (p + 2)) (word xs p) h);
         })))
 
     -- a record that is whole, with any list in which its bytes stand
-    pub record_is : (zs : List ℕ) (e : Bool) → p + 2 + word zs p ≤ length zs → recordAt zs p e ≡ pick (eqb (word zs p) 0) (none 22 p) (ofKind zs p (word zs p) (get_or zs (p + 2) 0))
-    unfolding recordAt
+    pub record_is : (zs : List ℕ) (e : Bool) → p + 2 + word zs p ≤ length zs → record_at zs p e ≡ pick (eqb (word zs p) 0) (none 22 p) (of_kind zs p (word zs p) (get_or zs (p + 2) 0))
+    unfolding record_at
     record_is zs e h =
         pick-false _ _ _ (lt-leb (length zs) p (omega arith))
         ∙ pick-false _ _ _ (lt-leb (length zs) (p + 1) (omega arith))
         ∙ pick-false _ _ _ (le-ltb (length zs - (p + 2)) (word zs p) (omega arith))
 
-    pub record-stays : Whole → (e : Bool) → recordAt (xs ++ ys) p e ≡ recordAt xs p false
-    record-stays w e =
-        record_is (xs ++ ys) e (omega (arith, w.bytes-there, longer, number-stays 2 xs ys p w.length-there))
-        ∙ ap (λ (n : ℕ). pick (eqb n 0) (none 22 p) (ofKind (xs ++ ys) p n (get_or (xs ++ ys) (p + 2) 0))) (number-stays 2 xs ys p w.length-there)
+    pub record_stays : Whole → (e : Bool) → record_at (xs ++ ys) p e ≡ record_at xs p false
+    record_stays w e =
+        record_is (xs ++ ys) e (omega (arith, w.bytes_there, longer, number_stays 2 xs ys p w.length_there))
+        ∙ ap (λ (n : ℕ). pick (eqb n 0) (none 22 p) (of_kind (xs ++ ys) p n (get_or (xs ++ ys) (p + 2) 0))) (number_stays 2 xs ys p w.length_there)
         ∙ same (eqb (word xs p) 0) _ _ _ _ (λ f. refl)
-        (λ f. ap (ofKind (xs ++ ys) p (word xs p)) (byte-stays xs ys (p + 2) (omega (arith, w.bytes-there, pos_of_ne-zero (eqb-false (word xs p) 0 f))))
-        ∙ kind-stays (word xs p) (get_or xs (p + 2) 0) w.bytes-there)
-        ∙ sym (record_is xs false w.bytes-there)
+        (λ f. ap (of_kind (xs ++ ys) p (word xs p)) (byte_stays xs ys (p + 2) (omega (arith, w.bytes_there, pos_of_ne-zero (eqb-false (word xs p) 0 f))))
+        ∙ kind_stays (word xs p) (get_or xs (p + 2) 0) w.bytes_there)
+        ∙ sym (record_is xs false w.bytes_there)
 
-    pub long-stays : p + 2 ≤ length xs → longLength (xs ++ ys) p ≡ longLength xs p
-    unfolding longLength pick
-    long-stays h =
+    pub long_stays : p + 2 ≤ length xs → long_length (xs ++ ys) p ≡ long_length xs p
+    unfolding long_length pick
+    long_stays h =
         simp (
           lt-leb (length (xs ++ ys)) p (omega (arith, longer)),
           lt-leb (length (xs ++ ys)) (p + 1) (omega (arith, longer)),
           lt-leb (length xs) p (omega arith),
           lt-leb (length xs) (p + 1) (omega arith),
-          number-stays 2 xs ys p h,
+          number_stays 2 xs ys p h,
         )
 
-    within-kind : (n k : ℕ) → p + 2 + n ≤ length xs → Within xs (ofKind xs p n k)
-    unfolding ofKind writeRecord readRecord grantRecord memoryRecord Within
-    within-kind n k h =
+    within_kind : (n k : ℕ) → p + 2 + n ≤ length xs → Within xs (of_kind xs p n k)
+    unfolding of_kind write_record read_record grant_record memory_record Within
+    within_kind n k h =
         pick-both (Within xs) _ _ _ (pick-both (Within xs) _ _ _ (λ e. absurd (omega (arith, e))) (λ e. absurd (omega (arith, e))))
         (pick-both (Within xs) _ _ _ (pick-both (Within xs) _ _ _ (λ e. absurd (omega (arith, e))) (λ e. absurd (omega (arith, e))))
         (pick-both (Within xs) _ _ _ (pick-both (Within xs) _ _ _ (λ e. absurd (omega (arith, e))) (λ e. absurd (omega (arith, e))))
@@ -130,7 +130,7 @@ module _ (xs ys : List ℕ) where
     unfolding Within
     within_none e = absurd (omega (arith, e))
 
-    pub within : Whole → Within xs (recordAt xs p false)
+    pub within : Whole → Within xs (record_at xs p false)
     within w =
-        subst (Within xs) (sym (record_is xs false w.bytes-there))
-        (pick-both (Within xs) _ _ _ within_none (within-kind (word xs p) (get_or xs (p + 2) 0) w.bytes-there))
+        subst (Within xs) (sym (record_is xs false w.bytes_there))
+        (pick-both (Within xs) _ _ _ within_none (within_kind (word xs p) (get_or xs (p + 2) 0) w.bytes_there))

@@ -13,7 +13,7 @@ use lib.ListN.{length, get_or}
 use Rattle.rules.specs.Choice.{pick}
 use Rattle.rules.specs.Bytes.{AreBytes}
 use Rattle.rules.proofs.Choice.{pick_true, pick-false, pick-both, pick-cases}
-use Rattle.records.specs.Records.{none, short, behind, writeRecord, readRecord, grantRecord, memoryRecord, ofKind, recordAt, longLength}
+use Rattle.records.specs.Records.{none, short, behind, write_record, read_record, grant_record, memory_record, of_kind, record_at, long_length}
 use Rattle.records.specs.BigEndian.{word}
 use Rattle.records.specs.declared.Record.{Record}
 use Rattle.records.proofs.Bytes.{byte_small}
@@ -26,8 +26,8 @@ pub record Stands (xs : List ℕ) (p : ℕ) (r : Record) : Type 0 where
   pub fault : 20 ≤ r.number → (r.number ≡ 21) ⊎ (r.number ≡ 22)
 
 module _ (xs : List ℕ) (p : ℕ) where
-  stands-fault : (number : ℕ) → 20 ≤ number → (number ≡ 21) ⊎ (number ≡ 22) → Stands xs p (none number p)
-  stands-fault number h g =
+  stands_fault : (number : ℕ) → 20 ≤ number → (number ≡ 21) ⊎ (number ≡ 22) → Stands xs p (none number p)
+  stands_fault number h g =
       record {
         some = omega arith;
         takes = λ e f. absurd (f h);
@@ -35,8 +35,8 @@ module _ (xs : List ℕ) (p : ℕ) where
         fault = λ f. g;
       }
 
-  stands-wrong : Stands xs p (none 22 p)
-  stands-wrong = stands-fault 22 (omega arith) (inr refl)
+  stands_wrong : Stands xs p (none 22 p)
+  stands_wrong = stands_fault 22 (omega arith) (inr refl)
 
   -- a record of one of the four kinds
   stands_one : (r : Record) → 0 < r.number → r.number < 5 → p < r.next → Stands xs p r
@@ -48,27 +48,27 @@ module _ (xs : List ℕ) (p : ℕ) where
         fault = λ f. absurd (omega arith);
       }
 
-  pub stands-kind : (n k : ℕ) → Stands xs p (ofKind xs p n k)
-  unfolding ofKind writeRecord readRecord grantRecord memoryRecord
-  stands-kind n k =
+  pub stands_kind : (n k : ℕ) → Stands xs p (of_kind xs p n k)
+  unfolding of_kind write_record read_record grant_record memory_record
+  stands_kind n k =
       pick-both (Stands xs p) _ _ _
-      (pick-both (Stands xs p) _ _ _ (stands_one _ (omega arith) (omega arith) (omega arith)) stands-wrong)
+      (pick-both (Stands xs p) _ _ _ (stands_one _ (omega arith) (omega arith) (omega arith)) stands_wrong)
       (pick-both (Stands xs p) _ _ _
-      (pick-both (Stands xs p) _ _ _ (stands_one _ (omega arith) (omega arith) (omega arith)) stands-wrong)
+      (pick-both (Stands xs p) _ _ _ (stands_one _ (omega arith) (omega arith) (omega arith)) stands_wrong)
       (pick-both (Stands xs p) _ _ _
-      (pick-both (Stands xs p) _ _ _ (stands_one _ (omega arith) (omega arith) (omega arith)) stands-wrong)
+      (pick-both (Stands xs p) _ _ _ (stands_one _ (omega arith) (omega arith) (omega arith)) stands_wrong)
       (pick-both (Stands xs p) _ _ _
-      (pick-both (Stands xs p) _ _ _ stands-wrong
-      (pick-both (Stands xs p) _ _ _ stands-wrong (stands_one _ (omega arith) (omega arith) (omega arith))))
-      stands-wrong)))
+      (pick-both (Stands xs p) _ _ _ stands_wrong
+      (pick-both (Stands xs p) _ _ _ stands_wrong (stands_one _ (omega arith) (omega arith) (omega arith))))
+      stands_wrong)))
 
-  stands-short : Stands xs p (short true p)
+  stands_short : Stands xs p (short true p)
   unfolding short pick
-  stands-short = stands-fault 21 (omega arith) (inl refl)
+  stands_short = stands_fault 21 (omega arith) (inl refl)
 
-  stands-behind : length xs ≤ p → Stands xs p (behind true p)
+  stands_behind : length xs ≤ p → Stands xs p (behind true p)
   unfolding behind pick
-  stands-behind h =
+  stands_behind h =
       record {
         some = omega arith;
         takes = λ e f. absurd (e refl);
@@ -76,28 +76,28 @@ module _ (xs : List ℕ) (p : ℕ) where
         fault = λ f. absurd (omega (arith, f));
       }
 
-  pub stands : Stands xs p (recordAt xs p true)
-  unfolding recordAt
+  pub stands : Stands xs p (record_at xs p true)
+  unfolding record_at
   stands =
-      pick-cases (Stands xs p) (leb (length xs) p) _ _ (λ e. stands-behind (leb-true (length xs) p e))
-      (λ e. pick-both (Stands xs p) _ _ _ stands-short
-      (pick-both (Stands xs p) _ _ _ stands-short
-      (pick-both (Stands xs p) _ _ _ stands-wrong (stands-kind (word xs p) (get_or xs (p + 2) 0)))))
+      pick-cases (Stands xs p) (leb (length xs) p) _ _ (λ e. stands_behind (leb-true (length xs) p e))
+      (λ e. pick-both (Stands xs p) _ _ _ stands_short
+      (pick-both (Stands xs p) _ _ _ stands_short
+      (pick-both (Stands xs p) _ _ _ stands_wrong (stands_kind (word xs p) (get_or xs (p + 2) 0)))))
 
   -- behind the last byte stands the end
-  pub at-end : length xs ≤ p → recordAt xs p true ≡ none 5 p
-  unfolding recordAt behind pick
-  at-end h = simp (le-leb (length xs) p h)
+  pub at_end : length xs ≤ p → record_at xs p true ≡ none 5 p
+  unfolding record_at behind pick
+  at_end h = simp (le-leb (length xs) p h)
 
-  pub short-end : length xs ≤ p → longLength xs p ≡ 0
-  unfolding longLength pick
-  short-end h = simp (le-leb (length xs) p h)
+  pub short_end : length xs ≤ p → long_length xs p ≡ 0
+  unfolding long_length pick
+  short_end h = simp (le-leb (length xs) p h)
 
   -- ---- a record that is too long for any kind
 
-  kind-long : (n k : ℕ) → 258 < n → ofKind xs p n k ≡ none 22 p
-  unfolding ofKind writeRecord readRecord grantRecord memoryRecord
-  kind-long n k h =
+  kind_long : (n k : ℕ) → 258 < n → of_kind xs p n k ≡ none 22 p
+  unfolding of_kind write_record read_record grant_record memory_record
+  kind_long n k h =
       pick-both (λ (r : Record). r ≡ none 22 p) _ _ _ (pick-false _ _ _ (ne_eqb n 4 (λ e. omega (arith, e))))
       (pick-both (λ (r : Record). r ≡ none 22 p) _ _ _ (pick-false _ _ _ (ne_eqb n 3 (λ e. omega (arith, e))))
       (pick-both (λ (r : Record). r ≡ none 22 p) _ _ _ (pick-false _ _ _ (ne_eqb n 5 (λ e. omega (arith, e))))
@@ -111,8 +111,8 @@ module _ (xs : List ℕ) (p : ℕ) where
     pub most : 258 < word xs p
     pub size : n ≡ word xs p
 
-  pub long : (longLength xs p ≡ 0 → ⊥) → Long (longLength xs p)
-  unfolding longLength
+  pub long : (long_length xs p ≡ 0 → ⊥) → Long (long_length xs p)
+  unfolding long_length
   long =
       pick-cases (λ (n : ℕ). (n ≡ 0 → ⊥) → Long n) _ _ _ (λ e f. absurd (f refl))
       (λ e. pick-cases (λ (n : ℕ). (n ≡ 0 → ⊥) → Long n) _ _ _ (λ g f. absurd (f refl))
@@ -120,18 +120,18 @@ module _ (xs : List ℕ) (p : ℕ) where
       (λ h f. record { there = leb-false (length xs) (p + 1) g; most = ltb-true 258 (word xs p) h; size = refl })
       (λ h f. absurd (f refl))))
 
-  pub record-whole : Long (longLength xs p) → longLength xs p ≤ length xs - (p + 2) → recordAt xs p true ≡ none 22 p
-  unfolding recordAt
-  record-whole l h =
+  pub record_whole : Long (long_length xs p) → long_length xs p ≤ length xs - (p + 2) → record_at xs p true ≡ none 22 p
+  unfolding record_at
+  record_whole l h =
       pick-false _ _ _ (lt-leb (length xs) p (omega (arith, l.there)))
       ∙ pick-false _ _ _ (lt-leb (length xs) (p + 1) l.there)
       ∙ pick-false _ _ _ (le-ltb (length xs - (p + 2)) (word xs p) (omega (arith, l.size, h)))
       ∙ pick-false _ _ _ (ne_eqb (word xs p) 0 (λ e. omega (arith, l.most, e)))
-      ∙ kind-long (word xs p) (get_or xs (p + 2) 0) l.most
+      ∙ kind_long (word xs p) (get_or xs (p + 2) 0) l.most
 
-  pub record-cut : Long (longLength xs p) → length xs - (p + 2) < longLength xs p → recordAt xs p true ≡ none 21 p
-  unfolding recordAt short pick
-  record-cut l h =
+  pub record_cut : Long (long_length xs p) → length xs - (p + 2) < long_length xs p → record_at xs p true ≡ none 21 p
+  unfolding record_at short pick
+  record_cut l h =
       simp (
         lt-leb (length xs) p (omega (arith, l.there)),
         lt-leb (length xs) (p + 1) l.there,
@@ -139,9 +139,9 @@ module _ (xs : List ℕ) (p : ℕ) where
       )
 
 -- a record can be too long only where its length is there
-pub long-there : (xs : List ℕ) (p : ℕ) → (longLength xs p ≡ 0 → ⊥) → p + 2 ≤ length xs
-unfolding longLength
-long-there xs p =
+pub long_there : (xs : List ℕ) (p : ℕ) → (long_length xs p ≡ 0 → ⊥) → p + 2 ≤ length xs
+unfolding long_length
+long_there xs p =
     pick-cases (λ (n : ℕ). (n ≡ 0 → ⊥) → p + 2 ≤ length xs) (leb (length xs) p) _ _ (λ e f. absurd (f refl))
     (λ e. pick-cases (λ (n : ℕ). (n ≡ 0 → ⊥) → p + 2 ≤ length xs) (leb (length xs) (p + 1)) _ _ (λ e f. absurd (f refl))
     (λ e f. omega (arith, leb-false (length xs) (p + 1) e)))
@@ -151,18 +151,18 @@ Small : Record → Type 0
 Small r = r.byte < 256
 
 module _ (xs : List ℕ) (h : AreBytes xs) (p : ℕ) where
-  small-kind : (n k : ℕ) → Small (ofKind xs p n k)
-  unfolding ofKind writeRecord readRecord grantRecord memoryRecord Small
-  small-kind n k =
+  small_kind : (n k : ℕ) → Small (of_kind xs p n k)
+  unfolding of_kind write_record read_record grant_record memory_record Small
+  small_kind n k =
       pick-both Small _ _ _ (pick-both Small _ _ _ (byte_small xs h (p + 5)) (omega arith))
       (pick-both Small _ _ _ (pick-both Small _ _ _ (omega arith) (omega arith))
       (pick-both Small _ _ _ (pick-both Small _ _ _ (omega arith) (omega arith))
       (pick-both Small _ _ _ (pick-both Small _ _ _ (omega arith) (pick-both Small _ _ _ (omega arith) (omega arith))) (omega arith))))
 
-  pub small-byte : (recordAt xs p true).byte < 256
-  unfolding recordAt short behind Small
-  small-byte =
+  pub small_byte : (record_at xs p true).byte < 256
+  unfolding record_at short behind Small
+  small_byte =
       pick-both Small _ _ _ (pick-both Small _ _ _ (omega arith) (omega arith))
       (pick-both Small _ _ _ (pick-both Small _ _ _ (omega arith) (omega arith))
       (pick-both Small _ _ _ (pick-both Small _ _ _ (omega arith) (omega arith))
-      (pick-both Small _ _ _ (omega arith) (small-kind (word xs p) (get_or xs (p + 2) 0)))))
+      (pick-both Small _ _ _ (omega arith) (small_kind (word xs p) (get_or xs (p + 2) 0)))))

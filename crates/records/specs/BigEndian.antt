@@ -13,9 +13,9 @@ bytes_of zero n = []
 bytes_of (suc count) n = bytes_of count (n / 256) ++ (n % 256 ∷ [])
 
 -- how many numbers have room in so many bytes
-unfoldable pub numbersIn : ℕ → ℕ
-numbersIn zero = 1
-numbersIn (suc count) = 256 * numbersIn count
+unfoldable pub numbers_in : ℕ → ℕ
+numbers_in zero = 1
+numbers_in (suc count) = 256 * numbers_in count
 
 -- two bytes, and four
 abbrev pub word : List ℕ → ℕ → ℕ
@@ -24,8 +24,8 @@ word xs p = number_at 2 xs p
 abbrev pub quad : List ℕ → ℕ → ℕ
 quad xs p = number_at 4 xs p
 
-abbrev pub twoBytes : ℕ → List ℕ
-twoBytes n = bytes_of 2 n
+abbrev pub two_bytes : ℕ → List ℕ
+two_bytes n = bytes_of 2 n
 
-abbrev pub fourBytes : ℕ → List ℕ
-fourBytes n = bytes_of 4 n
+abbrev pub four_bytes : ℕ → List ℕ
+four_bytes n = bytes_of 4 n

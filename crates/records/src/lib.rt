@@ -1,6 +1,6 @@
 // The records of a session's bytes.
 ghost use Rattle.std.specs.Prelude.{◌≡◌, ◌+◌, ◌*◌, ◌≤◌, ◌<◌, length};
-ghost use Rattle.records.specs.Records.{short, behind, writeRecord, readRecord, grantRecord, memoryRecord, ofKind, recordAt, longLength};
+ghost use Rattle.records.specs.Records.{short, behind, write_record, read_record, grant_record, memory_record, of_kind, record_at, long_length};
 ghost use Rattle.records.specs.Records.{none as noRecord};
 ghost use Rattle.records.specs.BigEndian.{word, quad};
 
@@ -117,7 +117,7 @@ fn behind_all(ended: bool, place: usize) -> Record
 // A port write, if n is its length.
 fn write_record(input: &[u8], place: usize, n: usize) -> Record
     requires { place + 2 + n ≤ length input.now }
-    ensures { result ≡ writeRecord input.now place n }
+    ensures { result ≡ write_record input.now place n }
 {
     if n == 4 {
         let port = word_at(input, place + 3);
@@ -137,7 +137,7 @@ fn write_record(input: &[u8], place: usize, n: usize) -> Record
 // A port read, if n is its length.
 fn read_record(input: &[u8], place: usize, n: usize) -> Record
     requires { place + 2 + n ≤ length input.now }
-    ensures { result ≡ readRecord input.now place n }
+    ensures { result ≡ read_record input.now place n }
 {
     if n == 3 {
         let port = word_at(input, place + 3);
@@ -156,7 +156,7 @@ fn read_record(input: &[u8], place: usize, n: usize) -> Record
 // A grant, if n is its length.
 fn grant_record(input: &[u8], place: usize, n: usize) -> Record
     requires { place + 2 + n ≤ length input.now }
-    ensures { result ≡ grantRecord input.now place n }
+    ensures { result ≡ grant_record input.now place n }
 {
     if n == 5 {
         let clocks = quad_at(input, place + 3);
@@ -175,7 +175,7 @@ fn grant_record(input: &[u8], place: usize, n: usize) -> Record
 // A memory record, if n is a length of one.
 fn memory_record(input: &[u8], place: usize, n: usize) -> Record
     requires { place + 2 + n ≤ length input.now }
-    ensures { result ≡ memoryRecord input.now place n }
+    ensures { result ≡ memory_record input.now place n }
 {
     if n < 4 {
         return no_record(WRONG, place);
@@ -197,7 +197,7 @@ fn memory_record(input: &[u8], place: usize, n: usize) -> Record
 // A record of which all n bytes are there, by its kind.
 fn of_kind(input: &[u8], place: usize, n: usize, kind: u8) -> Record
     requires { place + 2 + n ≤ length input.now }
-    ensures { result ≡ ofKind input.now place n kind }
+    ensures { result ≡ of_kind input.now place n kind }
 {
     if kind == WRITE {
         return write_record(input, place, n);
@@ -218,7 +218,7 @@ fn of_kind(input: &[u8], place: usize, n: usize, kind: u8) -> Record
 // anywhere, also behind the bytes. Of a record that is too long for any kind it waits for all bytes: who cannot hold them
 // asks long_length first.
 pub fn record_at(input: &[u8], place: usize, ended: bool) -> Record
-    ensures { result ≡ recordAt input.now place ended }
+    ensures { result ≡ record_at input.now place ended }
 {
     if input.len() <= place {
         return behind_all(ended, place);
@@ -239,7 +239,7 @@ pub fn record_at(input: &[u8], place: usize, ended: bool) -> Record
 
 // The length of a record that is too long for any kind, once both bytes of the length are at hand, else 0.
 pub fn long_length(input: &[u8], place: usize) -> usize
-    ensures { result ≡ longLength input.now place }
+    ensures { result ≡ long_length input.now place }
 {
     if input.len() <= place {
         return 0;

@@ -1,16 +1,16 @@
 // WR6, the commands.
 ghost use Rattle.std.specs.Prelude.{◌≡◌};
-ghost use Rattle.rules.specs.Commands.{blockEnded, enable, controlAtReset, reset, continue, load, restartReading, askStatus, readingCommand, command};
-ghost use Rattle.rules.specs.Parts.{withA, with_b, withControl, withReadback, withStatus};
-ghost use Rattle.rules.specs.Ports.{resetTiming};
-ghost use Rattle.rules.specs.PowerOn.{statusAtReset, readbackAtReset};
+ghost use Rattle.rules.specs.Commands.{block_ended, enable, control_at_reset, reset, continue, load, restart_reading, ask_status, reading_command, command};
+ghost use Rattle.rules.specs.Parts.{with_a, with_b, with_control, with_readback, with_status};
+ghost use Rattle.rules.specs.Ports.{reset_timing};
+ghost use Rattle.rules.specs.PowerOn.{status_at_reset, readback_at_reset};
 
 use parts::{block, part, port, power_on};
 use rules::Core;
 
 // E becomes 0.
 pub fn block_ended(c: Core) -> Core
-    ensures { result ≡ blockEnded c }
+    ensures { result ≡ block_ended c }
 {
     let mut next = c;
     next.status.e = false;
@@ -35,7 +35,7 @@ pub fn enabled(c: Core) -> Core
 
 // The status byte becomes 3A.
 fn status_reset(c: Core) -> Core
-    ensures { result ≡ withStatus statusAtReset c }
+    ensures { result ≡ with_status status_at_reset c }
 {
     let status = power_on::status_at_reset();
     part::with_status(status, c)
@@ -43,7 +43,7 @@ fn status_reset(c: Core) -> Core
 
 // Reading as after a reset.
 fn readback_reset(c: Core) -> Core
-    ensures { result ≡ withReadback readbackAtReset c }
+    ensures { result ≡ with_readback readback_at_reset c }
 {
     let readback = power_on::readback_at_reset();
     part::with_readback(readback, c)
@@ -51,7 +51,7 @@ fn readback_reset(c: Core) -> Core
 
 // The cycle of A becomes 4.
 fn a_timing_reset(c: Core) -> Core
-    ensures { result ≡ withA (resetTiming c.a) c }
+    ensures { result ≡ with_a (reset_timing c.a) c }
 {
     let p = c.a;
     let p = port::reset_timing(p);
@@ -60,7 +60,7 @@ fn a_timing_reset(c: Core) -> Core
 
 // The cycle of B becomes 4.
 fn b_timing_reset(c: Core) -> Core
-    ensures { result ≡ with_b (resetTiming c.b) c }
+    ensures { result ≡ with_b (reset_timing c.b) c }
 {
     let p = c.b;
     let p = port::reset_timing(p);
@@ -69,7 +69,7 @@ fn b_timing_reset(c: Core) -> Core
 
 // Prescaler 0 and no auto restart; the speed stays.
 fn control_reset(c: Core) -> Core
-    ensures { result ≡ withControl (controlAtReset c.control) c }
+    ensures { result ≡ with_control (control_at_reset c.control) c }
 {
     let mut next = c;
     next.control.prescaler = 0;
@@ -113,7 +113,7 @@ pub fn loaded(c: Core) -> Core
 
 // Reading starts again.
 fn reading_restarted(c: Core) -> Core
-    ensures { result ≡ restartReading c }
+    ensures { result ≡ restart_reading c }
 {
     let mut next = c;
     next.readback.position = 0;
@@ -122,7 +122,7 @@ fn reading_restarted(c: Core) -> Core
 
 // The next accepted read gives the status.
 fn status_asked(c: Core) -> Core
-    ensures { result ≡ askStatus c }
+    ensures { result ≡ ask_status c }
 {
     let mut next = c;
     next.readback.waiting = true;
@@ -131,7 +131,7 @@ fn status_asked(c: Core) -> Core
 
 // The commands on reading and on the status.
 fn reading_command(byte: u8, c: Core) -> Core
-    ensures { result ≡ readingCommand byte c }
+    ensures { result ≡ reading_command byte c }
 {
     if byte == 0x8B {
         return status_reset(c);

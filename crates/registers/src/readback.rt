@@ -1,7 +1,7 @@
 // What a port read gives.
 ghost use Rattle.std.specs.Prelude.{◌≡◌};
-ghost use Rattle.rules.specs.Bytes.{low_byte, highByte};
-ghost use Rattle.rules.specs.Readback.{statusByte, registerByte, after, chosen, readByte};
+ghost use Rattle.rules.specs.Bytes.{low_byte, high_byte};
+ghost use Rattle.rules.specs.Readback.{status_byte, register_byte, after, chosen, read_byte};
 ghost use Rattle.registers.specs.Answers.{given};
 
 use rules::{Core, Status};
@@ -15,7 +15,7 @@ pub struct Given {
 
 // The status byte.
 fn status_byte(s: Status) -> u8
-    ensures { result ≡ statusByte s }
+    ensures { result ≡ status_byte s }
 {
     if s.e {
         if s.t {
@@ -38,7 +38,7 @@ fn low(n: u32) -> u8
 
 // The high byte of a number's low 16 bits.
 fn high(n: u32) -> u8
-    ensures { result ≡ highByte n }
+    ensures { result ≡ high_byte n }
 {
     (n / 256 % 256) as u8
 }
@@ -52,7 +52,7 @@ fn wide(x: u16) -> u32
 
 // Register `k`.
 fn register_byte(k: u8, c: Core) -> u8
-    ensures { result ≡ registerByte k c }
+    ensures { result ≡ register_byte k c }
 {
     if k == 0 {
         let status = c.status;
@@ -97,7 +97,7 @@ pub fn first_in_mask(mask: u8, position: u8) -> u8
 
 // An accepted read.
 pub fn read(c: Core) -> Given
-    ensures { result ≡ given (readByte c) }
+    ensures { result ≡ given (read_byte c) }
 {
     let byte = status_byte(c.status);
     if c.readback.waiting {

@@ -1,9 +1,9 @@
 // What a byte written to the port does.
 ghost use Rattle.std.specs.Prelude.{◌≡◌};
-ghost use Rattle.rules.specs.Bytes.{withLow, withHigh};
-ghost use Rattle.rules.specs.Parts.{withA, with_b, withBlock, withLength, withControl, withPrescaler};
-ghost use Rattle.rules.specs.Ports.{timed, addressedLow, addressedHigh};
-ghost use Rattle.rules.specs.Registers.{wr0, wr1, wr2, wr3, wr4, wr5, register, masked, parameter, carriedOutAs, effect, inMode, written};
+ghost use Rattle.rules.specs.Bytes.{with_low, with_high};
+ghost use Rattle.rules.specs.Parts.{with_a, with_b, with_block, with_length, with_control, with_prescaler};
+ghost use Rattle.rules.specs.Ports.{timed, addressed_low, addressed_high};
+ghost use Rattle.rules.specs.Registers.{wr0, wr1, wr2, wr3, wr4, wr5, register, masked, parameter, carried_out_as, effect, in_mode, written};
 ghost use Rattle.rules.specs.Warnings.{warning as warningOf};
 ghost use Rattle.registers.specs.Answers.{decoded};
 
@@ -106,7 +106,7 @@ fn write_register(number: u8, byte: u8, c: Core) -> Core
 
 // The low byte of A's starting address.
 fn a_low_written(byte: u8, c: Core) -> Core
-    ensures { result ≡ withA (addressedLow byte c.a) c }
+    ensures { result ≡ with_a (addressed_low byte c.a) c }
 {
     let p = c.a;
     let p = port::address_low(byte, p);
@@ -115,7 +115,7 @@ fn a_low_written(byte: u8, c: Core) -> Core
 
 // The high byte of A's starting address.
 fn a_high_written(byte: u8, c: Core) -> Core
-    ensures { result ≡ withA (addressedHigh byte c.a) c }
+    ensures { result ≡ with_a (addressed_high byte c.a) c }
 {
     let p = c.a;
     let p = port::address_high(byte, p);
@@ -124,7 +124,7 @@ fn a_high_written(byte: u8, c: Core) -> Core
 
 // The low byte of B's starting address.
 fn b_low_written(byte: u8, c: Core) -> Core
-    ensures { result ≡ with_b (addressedLow byte c.b) c }
+    ensures { result ≡ with_b (addressed_low byte c.b) c }
 {
     let p = c.b;
     let p = port::address_low(byte, p);
@@ -133,7 +133,7 @@ fn b_low_written(byte: u8, c: Core) -> Core
 
 // The high byte of B's starting address.
 fn b_high_written(byte: u8, c: Core) -> Core
-    ensures { result ≡ with_b (addressedHigh byte c.b) c }
+    ensures { result ≡ with_b (addressed_high byte c.b) c }
 {
     let p = c.b;
     let p = port::address_high(byte, p);
@@ -142,7 +142,7 @@ fn b_high_written(byte: u8, c: Core) -> Core
 
 // A's cycle.
 fn a_timing_written(byte: u8, c: Core) -> Core
-    ensures { result ≡ withA (timed byte c.a) c }
+    ensures { result ≡ with_a (timed byte c.a) c }
 {
     let p = c.a;
     let p = port::time(byte, p);
@@ -160,7 +160,7 @@ fn b_timing_written(byte: u8, c: Core) -> Core
 
 // The low byte of the length.
 fn length_low_written(byte: u8, c: Core) -> Core
-    ensures { result ≡ withBlock (withLength (withLow byte c.block.length) c.block) c }
+    ensures { result ≡ with_block (with_length (with_low byte c.block.length) c.block) c }
 {
     let length = bytes::with_low(byte, c.block.length);
     let mut next = c;
@@ -170,7 +170,7 @@ fn length_low_written(byte: u8, c: Core) -> Core
 
 // The high byte of the length.
 fn length_high_written(byte: u8, c: Core) -> Core
-    ensures { result ≡ withBlock (withLength (withHigh byte c.block.length) c.block) c }
+    ensures { result ≡ with_block (with_length (with_high byte c.block.length) c.block) c }
 {
     let length = bytes::with_high(byte, c.block.length);
     let mut next = c;
@@ -180,7 +180,7 @@ fn length_high_written(byte: u8, c: Core) -> Core
 
 // The prescaler.
 fn prescaler_written(byte: u8, c: Core) -> Core
-    ensures { result ≡ withControl (withPrescaler byte c.control) c }
+    ensures { result ≡ with_control (with_prescaler byte c.control) c }
 {
     let mut next = c;
     next.control.prescaler = byte;
@@ -234,7 +234,7 @@ fn write_parameter(which: u16, byte: u8, c: Core) -> Core
 
 // The compatibility mode that the port stands for.
 fn in_mode(port: u16, c: Core) -> Core
-    ensures { result ≡ inMode port c }
+    ensures { result ≡ in_mode port c }
 {
     let zilog = port % 256 == 0x0B;
     let mut next = c;
@@ -244,7 +244,7 @@ fn in_mode(port: u16, c: Core) -> Core
 
 // A byte is carried out, as this parameter or, where it is none, by the register that it selects.
 fn carry_out(which: u16, byte: u8, c: Core) -> Core
-    ensures { result ≡ carriedOutAs which byte c }
+    ensures { result ≡ carried_out_as which byte c }
 {
     if which != pending::NOTHING {
         return write_parameter(which, byte, c);

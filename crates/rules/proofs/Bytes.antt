@@ -8,5 +8,5 @@ use lib.Dec.{eqb}
 use lib.Pow.{pow_mono}
 use Rattle.rules.specs.Bytes.{bit}
 
-pub bit-above : (k byte : ℕ) → 8 ≤ k → byte < 256 → bit k byte ≡ false
-bit-above k byte h l = ap (λ (q : ℕ). eqb (q % 2) 1) (div-eq_of_lt (lt_of_lt_of_le l (pow_mono {i = 8} {j = k} h)))
+pub bit_above : (k byte : ℕ) → 8 ≤ k → byte < 256 → bit k byte ≡ false
+bit_above k byte h l = ap (λ (q : ℕ). eqb (q % 2) 1) (div-eq_of_lt (lt_of_lt_of_le l (pow_mono {i = 8} {j = k} h)))

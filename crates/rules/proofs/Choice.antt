@@ -76,13 +76,13 @@ tables R (ends h) = h
 tables R (h ∥ hs) = both-picked R _ _ _ _ _ (λ e. h) (λ e. tables R hs)
 
 -- a row passed by leaves it to those below; one whose test holds settles it
-pub row-passed : {X : Type 0} (r : Row X) (rs : List (Row X)) (x : X) → r.holds ≡ false → first_of (r ∷ rs) x ≡ first_of rs x
+pub row_passed : {X : Type 0} (r : Row X) (rs : List (Row X)) (x : X) → r.holds ≡ false → first_of (r ∷ rs) x ≡ first_of rs x
 unfolding first_of
-row-passed r rs x e = pick-false _ _ _ e
+row_passed r rs x e = pick-false _ _ _ e
 
-pub row-taken : {X : Type 0} (r : Row X) (rs : List (Row X)) (x : X) → r.holds ≡ true → first_of (r ∷ rs) x ≡ r.result
+pub row_taken : {X : Type 0} (r : Row X) (rs : List (Row X)) (x : X) → r.holds ≡ true → first_of (r ∷ rs) x ≡ r.result
 unfolding first_of
-row-taken r rs x e = pick_true _ _ _ e
+row_taken r rs x e = pick_true _ _ _ e
 
 -- what is asked where a test holds, before the rest
 abbrev AskedIf : Bool → Type 0 → Type 0 → Type 0
@@ -139,47 +139,47 @@ unfolding every pick
 every_more true ts e = e
 every_more false ts e = clash e
 
-every-none : every [] ≡ true
+every_none : every [] ≡ true
 unfolding every
-every-none = refl
+every_none = refl
 
-every-one-more : (t : Bool) (ts : List Bool) → t ≡ true → every ts ≡ true → every (t ∷ ts) ≡ true
+every_one_more : (t : Bool) (ts : List Bool) → t ≡ true → every ts ≡ true → every (t ∷ ts) ≡ true
 unfolding every pick
-every-one-more true ts d e = e
-every-one-more false ts d e = clash d
+every_one_more true ts d e = e
+every_one_more false ts d e = clash d
 
 -- a test that fails settles it, and one that holds leaves it to the rest
-pub every-stop : (t : Bool) (ts : List Bool) → t ≡ false → every (t ∷ ts) ≡ false
+pub every_stop : (t : Bool) (ts : List Bool) → t ≡ false → every (t ∷ ts) ≡ false
 unfolding every pick
-every-stop true ts e = clash (sym e)
-every-stop false ts e = refl
+every_stop true ts e = clash (sym e)
+every_stop false ts e = refl
 
-pub every-stop-later : (t : Bool) (ts : List Bool) → every ts ≡ false → every (t ∷ ts) ≡ false
+pub every_stop_later : (t : Bool) (ts : List Bool) → every ts ≡ false → every (t ∷ ts) ≡ false
 unfolding every pick
-every-stop-later true ts e = e
-every-stop-later false ts e = refl
+every_stop_later true ts e = e
+every_stop_later false ts e = refl
 
 -- wherever in the list it stands
-pub every-at : (k : ℕ) (ts : List Bool) → get_or ts k true ≡ false → every ts ≡ false
-every-at k [] e = clash (sym e)
-every-at zero (t ∷ ts) e = every-stop t ts e
-every-at (suc k) (t ∷ ts) e = every-stop-later t ts (every-at k ts e)
+pub every_at : (k : ℕ) (ts : List Bool) → get_or ts k true ≡ false → every ts ≡ false
+every_at k [] e = clash (sym e)
+every_at zero (t ∷ ts) e = every_stop t ts e
+every_at (suc k) (t ∷ ts) e = every_stop_later t ts (every_at k ts e)
 
-pub every-go : (t : Bool) (ts : List Bool) → t ≡ true → every (t ∷ ts) ≡ every ts
+pub every_go : (t : Bool) (ts : List Bool) → t ≡ true → every (t ∷ ts) ≡ every ts
 unfolding every pick
-every-go true ts e = refl
-every-go false ts e = clash e
+every_go true ts e = refl
+every_go false ts e = clash e
 
 -- every test of a list, as strict code computes it
-pub every-last : (t : Bool) → every (t ∷ []) ≡ t
+pub every_last : (t : Bool) → every (t ∷ []) ≡ t
 unfolding every pick
-every-last true = refl
-every-last false = refl
+every_last true = refl
+every_last false = refl
 
-pub every-step : (s t : Bool) (ts : List Bool) → every (s ∷ t ∷ ts) ≡ s && every (t ∷ ts)
+pub every_step : (s t : Bool) (ts : List Bool) → every (s ∷ t ∷ ts) ≡ s && every (t ∷ ts)
 unfolding every pick
-every-step true t ts = refl
-every-step false t ts = refl
+every_step true t ts = refl
+every_step false t ts = refl
 
 -- the tests of a list as facts
 abbrev pub All : List Bool → Type 0
@@ -190,21 +190,21 @@ pub all_true : (ts : List Bool) → every ts ≡ true → All ts
 all_true [] e = tt
 all_true (t ∷ ts) e = (every_first t ts e, all_true ts (every_more t ts e))
 
-pub true-all : (ts : List Bool) → All ts → every ts ≡ true
-true-all [] a = every-none
-true-all (t ∷ ts) a = every-one-more t ts a.0 (true-all ts a.1)
+pub true_all : (ts : List Bool) → All ts → every ts ≡ true
+true_all [] a = every_none
+true_all (t ∷ ts) a = every_one_more t ts a.0 (true_all ts a.1)
 
 -- ---- some test holds
 
-pub any-first : (t : Bool) (ts : List Bool) → t ≡ true → any (t ∷ ts) ≡ true
+pub any_first : (t : Bool) (ts : List Bool) → t ≡ true → any (t ∷ ts) ≡ true
 unfolding any pick
-any-first true ts e = refl
-any-first false ts e = clash e
+any_first true ts e = refl
+any_first false ts e = clash e
 
-pub any-more : (t : Bool) (ts : List Bool) → any ts ≡ true → any (t ∷ ts) ≡ true
+pub any_more : (t : Bool) (ts : List Bool) → any ts ≡ true → any (t ∷ ts) ≡ true
 unfolding any pick
-any-more true ts e = refl
-any-more false ts e = e
+any_more true ts e = refl
+any_more false ts e = e
 
 pub any-cases {ℓ} : {X : Type ℓ} (t : Bool) (ts : List Bool) → any (t ∷ ts) ≡ true → (t ≡ true → X) → (any ts ≡ true → X) → X
 unfolding any pick
@@ -217,13 +217,13 @@ any_none e = clash e
 
 -- ---- one test means another
 
-pub means-so : (s t : Bool) → means s t ≡ true → s ≡ true → t ≡ true
+pub means_so : (s t : Bool) → means s t ≡ true → s ≡ true → t ≡ true
 unfolding means
-means-so s t e h = sym (pick_true _ _ _ h) ∙ e
+means_so s t e h = sym (pick_true _ _ _ h) ∙ e
 
-pub so-means : (s t : Bool) → (s ≡ true → t ≡ true) → means s t ≡ true
+pub so_means : (s t : Bool) → (s ≡ true → t ≡ true) → means s t ≡ true
 unfolding means
-so-means s t f = pick-cases (λ (u : Bool). u ≡ true) s t true f (λ h. refl)
+so_means s t f = pick-cases (λ (u : Bool). u ≡ true) s t true f (λ h. refl)
 
 -- some test of a list, as strict code computes it
 pub any_last : (t : Bool) → any (t ∷ []) ≡ t
@@ -237,4 +237,4 @@ any_step true t ts = refl
 any_step false t ts = refl
 
 -- the tests of a list, one after the other, as strict code computes them
-pub ruleset strict = (every-last, every-step, any_last, any_step)
+pub ruleset strict = (every_last, every_step, any_last, any_step)

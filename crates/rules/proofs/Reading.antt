@@ -9,7 +9,7 @@ use lib.Dec.{ltb, eqb}
 use borrow.Author.Tests.{ltb-true, eqb-true}
 use Rattle.rules.specs.Choice.{pick, any}
 use Rattle.rules.specs.Bytes.{bit}
-use Rattle.rules.specs.Readback.{statusByte, registerByte, after, seek, Byte, readByte}
+use Rattle.rules.specs.Readback.{status_byte, register_byte, after, seek, Byte, read_byte}
 use Rattle.rules.specs.Facts.{Kept}
 use Rattle.rules.specs.Exactly.{onward, ChosenRead, ChosenExact, LowFirst}
 use Rattle.rules.specs.Opened.{opened}
@@ -17,42 +17,42 @@ use Rattle.rules.specs.declared.Status.{Status}
 use Rattle.rules.specs.declared.Core.{Core}
 use Rattle.rules.proofs.Choice.{clash, pick-cases, below, ◌⨾◌, table, pick_true, pick-false, either, any-cases, any_none, pick-both}
 use Rattle.rules.proofs.Trying.{all_below, below_at}
-use Rattle.rules.proofs.Steady.{steady-readback, kept_from, kept-steady, kept_slot, kept-progress}
+use Rattle.rules.proofs.Steady.{steady_readback, kept_from, kept_steady, kept_slot, kept_progress}
 
 after_small : (k : ℕ) → after k ≤ 6
 unfolding after
 after_small k = pick-cases (λ n. n ≤ 6) _ _ _ (λ (e : ltb k 6 ≡ true). omega (arith, ltb-true k 6 e)) (λ e. omega arith)
 
 -- the search, one place after the other
-pub seek-end : (n mask k : ℕ) → n ≡ 0 → seek n mask k ≡ k
+pub seek_end : (n mask k : ℕ) → n ≡ 0 → seek n mask k ≡ k
 unfolding seek
-seek-end zero mask k e = refl
-seek-end (suc n) mask k e = absurd (omega arith)
+seek_end zero mask k e = refl
+seek_end (suc n) mask k e = absurd (omega arith)
 
-pub seek-here : (n mask k : ℕ) → bit k mask ≡ true → seek n mask k ≡ k
+pub seek_here : (n mask k : ℕ) → bit k mask ≡ true → seek n mask k ≡ k
 unfolding seek
-seek-here zero mask k e = refl
-seek-here (suc n) mask k e = pick_true _ _ _ e
+seek_here zero mask k e = refl
+seek_here (suc n) mask k e = pick_true _ _ _ e
 
-pub seek-on : (n mask k : ℕ) → (n ≡ 0 → ⊥) → bit k mask ≡ false → seek n mask k ≡ seek (n - 1) mask (after k)
+pub seek_on : (n mask k : ℕ) → (n ≡ 0 → ⊥) → bit k mask ≡ false → seek n mask k ≡ seek (n - 1) mask (after k)
 unfolding seek
-seek-on zero mask k h e = absurd (h refl)
-seek-on (suc n) mask k h e =
+seek_on zero mask k h e = absurd (h refl)
+seek_on (suc n) mask k h e =
     pick-false _ _ _ e ∙ ap (λ (m : ℕ). seek m mask (after k)) (let z : n ≡ suc n - 1 = omega arith in z)
 
 -- ---- the register chosen
 
-onward-zero : (k : ℕ) → onward 0 k ≡ k
+onward_zero : (k : ℕ) → onward 0 k ≡ k
 unfolding onward
-onward-zero k = refl
+onward_zero k = refl
 
-onward-suc : (n k : ℕ) → onward (suc n) k ≡ onward n (after k)
+onward_suc : (n k : ℕ) → onward (suc n) k ≡ onward n (after k)
 unfolding onward
-onward-suc n k = refl
+onward_suc n k = refl
 
-seek-suc : (n mask k : ℕ) → bit k mask ≡ false → seek (suc n) mask k ≡ seek n mask (after k)
+seek_suc : (n mask k : ℕ) → bit k mask ≡ false → seek (suc n) mask k ≡ seek n mask (after k)
 unfolding seek
-seek-suc n mask k e = pick-false _ _ _ e
+seek_suc n mask k e = pick-false _ _ _ e
 
 -- the search finds the first register in the mask among so many, or none of them is in it
 data Sought (n mask k : ℕ) : Type 0 where
@@ -60,92 +60,92 @@ data Sought (n mask k : ℕ) : Type 0 where
   missing : ((i : ℕ) → i < n → bit (onward i k) mask ≡ false) → Sought n mask k
 
 -- the first of them is not in it, nor any of those after it
-first-too : (mask k : ℕ) → bit k mask ≡ false → (j : ℕ) → ((i : ℕ) → i < j → bit (onward i (after k)) mask ≡ false) → (i : ℕ) → i < suc j → bit (onward i k) mask ≡ false
-first-too mask k e j f zero h = ap (λ (r : ℕ). bit r mask) (onward-zero k) ∙ e
-first-too mask k e j f (suc i) h = ap (λ (r : ℕ). bit r mask) (onward-suc i k) ∙ f i (omega (arith, h))
+first_too : (mask k : ℕ) → bit k mask ≡ false → (j : ℕ) → ((i : ℕ) → i < j → bit (onward i (after k)) mask ≡ false) → (i : ℕ) → i < suc j → bit (onward i k) mask ≡ false
+first_too mask k e j f zero h = ap (λ (r : ℕ). bit r mask) (onward_zero k) ∙ e
+first_too mask k e j f (suc i) h = ap (λ (r : ℕ). bit r mask) (onward_suc i k) ∙ f i (omega (arith, h))
 
-sought-on : (n mask k : ℕ) → bit k mask ≡ false → Sought n mask (after k) → Sought (suc n) mask k
-sought-on n mask k e (found j h s b f) =
-    found (suc j) (omega (arith, h)) (seek-suc n mask k e ∙ s ∙ sym (onward-suc j k))
-    (ap (λ (r : ℕ). bit r mask) (onward-suc j k) ∙ b)
-    (first-too mask k e j f)
-sought-on n mask k e (missing f) = missing (first-too mask k e n f)
+sought_on : (n mask k : ℕ) → bit k mask ≡ false → Sought n mask (after k) → Sought (suc n) mask k
+sought_on n mask k e (found j h s b f) =
+    found (suc j) (omega (arith, h)) (seek_suc n mask k e ∙ s ∙ sym (onward_suc j k))
+    (ap (λ (r : ℕ). bit r mask) (onward_suc j k) ∙ b)
+    (first_too mask k e j f)
+sought_on n mask k e (missing f) = missing (first_too mask k e n f)
 
 sought : (n mask k : ℕ) → Sought n mask k
 sought zero mask k = missing (λ i h. absurd (omega (arith, h)))
 sought (suc n) mask k =
     either (bit k mask)
     (λ e.
-    found 0 (omega arith) (seek-here (suc n) mask k e ∙ sym (onward-zero k))
-    (ap (λ (r : ℕ). bit r mask) (onward-zero k) ∙ e)
+    found 0 (omega arith) (seek_here (suc n) mask k e ∙ sym (onward_zero k))
+    (ap (λ (r : ℕ). bit r mask) (onward_zero k) ∙ e)
     (λ i h. absurd (omega (arith, h))))
-    (λ e. sought-on n mask k e (sought n mask (after k)))
+    (λ e. sought_on n mask k e (sought n mask (after k)))
 
 -- a mask with none of its seven bits set is empty
-some-bit : ℕ → Bool
-some-bit mask =
+some_bit : ℕ → Bool
+some_bit mask =
     any (eqb mask 0 ∷ bit 0 mask ∷ bit 1 mask ∷ bit 2 mask ∷ bit 3 mask ∷ bit 4 mask ∷ bit 5 mask ∷ bit 6 mask ∷ [])
 
-masks-tried : all_below 128 some-bit ≡ true
-unfolding opened all_below some-bit
-masks-tried = refl
+masks_tried : all_below 128 some_bit ≡ true
+unfolding opened all_below some_bit
+masks_tried = refl
 
 -- where a test does not hold, another of the list does
-any-but : (t : Bool) (ts : List Bool) → t ≡ false → any (t ∷ ts) ≡ true → any ts ≡ true
-any-but t ts e h = any-cases t ts h (λ d. clash (sym e ∙ d)) (λ d. d)
+any_but : (t : Bool) (ts : List Bool) → t ≡ false → any (t ∷ ts) ≡ true → any ts ≡ true
+any_but t ts e h = any-cases t ts h (λ d. clash (sym e ∙ d)) (λ d. d)
 
 no_bits : (mask : ℕ) → mask ≤ 127 → bit 0 mask ≡ false → bit 1 mask ≡ false → bit 2 mask ≡ false → bit 3 mask ≡ false → bit 4 mask ≡ false → bit 5 mask ≡ false → bit 6 mask ≡ false → mask ≡ 0
-unfolding some-bit
+unfolding some_bit
 no_bits mask m b0 b1 b2 b3 b4 b5 b6 =
-    any-cases _ _ (below_at 128 some-bit masks-tried mask (omega (arith, m))) (λ e. eqb-true mask 0 e)
-    (λ h. any_none (any-but _ _ b6 (any-but _ _ b5 (any-but _ _ b4 (any-but _ _ b3 (any-but _ _ b2 (any-but _ _ b1 (any-but _ _ b0 h))))))))
+    any-cases _ _ (below_at 128 some_bit masks_tried mask (omega (arith, m))) (λ e. eqb-true mask 0 e)
+    (λ h. any_none (any_but _ _ b6 (any_but _ _ b5 (any_but _ _ b4 (any_but _ _ b3 (any_but _ _ b2 (any_but _ _ b1 (any_but _ _ b0 h))))))))
 
 -- seven registers, going round, are all of them
-all-missing : (mask position : ℕ) → mask ≤ 127 → position ≤ 6 → ((i : ℕ) → i < 7 → bit (onward i position) mask ≡ false) → mask ≡ 0
+all_missing : (mask position : ℕ) → mask ≤ 127 → position ≤ 6 → ((i : ℕ) → i < 7 → bit (onward i position) mask ≡ false) → mask ≡ 0
 unfolding onward after pick
-all-missing mask zero m p f = no_bits mask m (f 0 (omega arith)) (f 1 (omega arith)) (f 2 (omega arith)) (f 3 (omega arith)) (f 4 (omega arith)) (f 5 (omega arith)) (f 6 (omega arith))
-all-missing mask (suc zero) m p f = no_bits mask m (f 6 (omega arith)) (f 0 (omega arith)) (f 1 (omega arith)) (f 2 (omega arith)) (f 3 (omega arith)) (f 4 (omega arith)) (f 5 (omega arith))
-all-missing mask (suc (suc zero)) m p f = no_bits mask m (f 5 (omega arith)) (f 6 (omega arith)) (f 0 (omega arith)) (f 1 (omega arith)) (f 2 (omega arith)) (f 3 (omega arith)) (f 4 (omega arith))
-all-missing mask (suc (suc (suc zero))) m p f = no_bits mask m (f 4 (omega arith)) (f 5 (omega arith)) (f 6 (omega arith)) (f 0 (omega arith)) (f 1 (omega arith)) (f 2 (omega arith)) (f 3 (omega arith))
-all-missing mask (suc (suc (suc (suc zero)))) m p f = no_bits mask m (f 3 (omega arith)) (f 4 (omega arith)) (f 5 (omega arith)) (f 6 (omega arith)) (f 0 (omega arith)) (f 1 (omega arith)) (f 2 (omega arith))
-all-missing mask (suc (suc (suc (suc (suc zero))))) m p f = no_bits mask m (f 2 (omega arith)) (f 3 (omega arith)) (f 4 (omega arith)) (f 5 (omega arith)) (f 6 (omega arith)) (f 0 (omega arith)) (f 1 (omega arith))
-all-missing mask (suc (suc (suc (suc (suc (suc zero)))))) m p f = no_bits mask m (f 1 (omega arith)) (f 2 (omega arith)) (f 3 (omega arith)) (f 4 (omega arith)) (f 5 (omega arith)) (f 6 (omega arith)) (f 0 (omega arith))
-all-missing mask (suc (suc (suc (suc (suc (suc (suc k))))))) m p f = absurd (omega (arith, p))
+all_missing mask zero m p f = no_bits mask m (f 0 (omega arith)) (f 1 (omega arith)) (f 2 (omega arith)) (f 3 (omega arith)) (f 4 (omega arith)) (f 5 (omega arith)) (f 6 (omega arith))
+all_missing mask (suc zero) m p f = no_bits mask m (f 6 (omega arith)) (f 0 (omega arith)) (f 1 (omega arith)) (f 2 (omega arith)) (f 3 (omega arith)) (f 4 (omega arith)) (f 5 (omega arith))
+all_missing mask (suc (suc zero)) m p f = no_bits mask m (f 5 (omega arith)) (f 6 (omega arith)) (f 0 (omega arith)) (f 1 (omega arith)) (f 2 (omega arith)) (f 3 (omega arith)) (f 4 (omega arith))
+all_missing mask (suc (suc (suc zero))) m p f = no_bits mask m (f 4 (omega arith)) (f 5 (omega arith)) (f 6 (omega arith)) (f 0 (omega arith)) (f 1 (omega arith)) (f 2 (omega arith)) (f 3 (omega arith))
+all_missing mask (suc (suc (suc (suc zero)))) m p f = no_bits mask m (f 3 (omega arith)) (f 4 (omega arith)) (f 5 (omega arith)) (f 6 (omega arith)) (f 0 (omega arith)) (f 1 (omega arith)) (f 2 (omega arith))
+all_missing mask (suc (suc (suc (suc (suc zero))))) m p f = no_bits mask m (f 2 (omega arith)) (f 3 (omega arith)) (f 4 (omega arith)) (f 5 (omega arith)) (f 6 (omega arith)) (f 0 (omega arith)) (f 1 (omega arith))
+all_missing mask (suc (suc (suc (suc (suc (suc zero)))))) m p f = no_bits mask m (f 1 (omega arith)) (f 2 (omega arith)) (f 3 (omega arith)) (f 4 (omega arith)) (f 5 (omega arith)) (f 6 (omega arith)) (f 0 (omega arith))
+all_missing mask (suc (suc (suc (suc (suc (suc (suc k))))))) m p f = absurd (omega (arith, p))
 
-pub chosen-exact : ChosenExact
-chosen-exact mask position m n p = from (sought 7 mask position)
+pub chosen_exact : ChosenExact
+chosen_exact mask position m n p = from (sought 7 mask position)
   where
     from : Sought 7 mask position → ChosenRead mask position
     from (found j h s b f) =
-        record { steps = j; few = h; there = s; inMask = ap (λ (r : ℕ). bit r mask) s ∙ b; first = f }
-    from (missing f) = absurd (n (all-missing mask position m p f))
+        record { steps = j; few = h; there = s; in_mask = ap (λ (r : ℕ). bit r mask) s ∙ b; first = f }
+    from (missing f) = absurd (n (all_missing mask position m p f))
 
-status-small : (s : Status) → statusByte s < 256
-unfolding statusByte
-status-small s =
+status_small : (s : Status) → status_byte s < 256
+unfolding status_byte
+status_small s =
     let e = pick-both {X = ℕ} (λ n. n ≤ 32) s.e 32 0 (omega arith) (omega arith) in
     let t = pick-both {X = ℕ} (λ n. n ≤ 1) s.t 1 0 (omega arith) (omega arith) in
     omega (arith, e, t)
 
-register-small : (k : ℕ) (c : Core) → registerByte k c < 256
-unfolding registerByte
-register-small k c =
+register_small : (k : ℕ) (c : Core) → register_byte k c < 256
+unfolding register_byte
+register_small k c =
     table (λ (n : ℕ). n < 256)
-    (status-small c.status ⨾ omega arith ⨾ omega arith ⨾ omega arith ⨾ omega arith ⨾ omega arith ⨾ below (omega arith))
+    (status_small c.status ⨾ omega arith ⨾ omega arith ⨾ omega arith ⨾ omega arith ⨾ omega arith ⨾ below (omega arith))
 
 pub low_first : (c : Core) → LowFirst c
 unfolding opened
 low_first c =
-    record { bytes = λ k. register-small k c; counter = omega arith; a = omega arith; b = omega arith }
+    record { bytes = λ k. register_small k c; counter = omega arith; a = omega arith; b = omega arith }
 
 -- an accepted read keeps a valid core valid
-pub read_kept : (c : Core) → Kept c → Kept (readByte c).core
-unfolding readByte
+pub read_kept : (c : Core) → Kept c → Kept (read_byte c).core
+unfolding read_byte
 read_kept c k =
-    let s = kept-steady c k in
+    let s = kept_steady c k in
     let v = kept_slot c k in
-    let p = kept-progress c k in
+    let p = kept_progress c k in
     table (λ (b : Byte). Kept b.core)
-    (kept_from _ (steady-readback s _ (record { mask = s.readback.mask; position = s.readback.position })) v p
+    (kept_from _ (steady_readback s _ (record { mask = s.readback.mask; position = s.readback.position })) v p
     ⨾ k
-    ⨾ below (kept_from _ (steady-readback s _ (record { mask = s.readback.mask; position = after_small _ })) v p))
+    ⨾ below (kept_from _ (steady_readback s _ (record { mask = s.readback.mask; position = after_small _ })) v p))

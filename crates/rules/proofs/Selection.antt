@@ -9,18 +9,18 @@ use mathlib.Core.List.{List, ◌∷◌}
 use lib.Dec.{eqb}
 use borrow.Author.Tests.{ne_eqb, eqb-true, eqb-false, eq-eqb, ltb-true, lt-ltb, le-ltb, leb-true, le-leb, not-true}
 use Rattle.rules.specs.Choice.{pick, first_of}
-use Rattle.rules.specs.Parts.{withPending}
+use Rattle.rules.specs.Parts.{with_pending}
 use Rattle.rules.specs.Selection.{selects}
-use Rattle.rules.specs.Pending.{isPending, asked, pendingAfterAs, pendingAfter}
-use Rattle.rules.specs.Registers.{register, inMode, carriedOut, effect, written, carriedOutAs, effectOver}
+use Rattle.rules.specs.Pending.{is_pending, asked, pending_after_as, pending_after}
+use Rattle.rules.specs.Registers.{register, in_mode, carried_out, effect, written, carried_out_as, effect_over}
 use Rattle.rules.specs.Exactly.{Exactly, holding, selected, selecting, SelectionExact}
 use Rattle.rules.specs.Opened.{opened}
 use Rattle.rules.specs.declared.Core.{Core}
-use Rattle.rules.proofs.Choice.{pick-false, row-passed, row-taken, shows, not_of_false, all_true, true-all, every-at}
+use Rattle.rules.proofs.Choice.{pick-false, row_passed, row_taken, shows, not_of_false, all_true, true_all, every_at}
 
-pub one-register : selecting 1 256 ≡ 232
+pub one_register : selecting 1 256 ≡ 232
 unfolding opened holding selecting
-one-register = refl
+one_register = refl
 
 pub no_register : selecting 0 256 ≡ 24
 unfolding opened holding selecting
@@ -53,20 +53,20 @@ idle byte e =
 
 -- ---- WR0 and WR4 by their bits
 
-pub wr0-exact : (byte : ℕ) → Exactly (selects byte ≡ 0) ((byte < 128) × (byte % 4 ≡ 0 → ⊥))
+pub wr0_exact : (byte : ℕ) → Exactly (selects byte ≡ 0) ((byte < 128) × (byte % 4 ≡ 0 → ⊥))
 unfolding selects
-wr0-exact byte =
+wr0_exact byte =
     record {
       to =
           λ e.
           shows 0 _ _ e
           ((λ t. let h = all_true _ t in (ltb-true _ _ h.0, eqb-false _ _ (not-true _ h.1.0))), tt);
-      from = λ h. row-taken _ _ _ (true-all _ (lt-ltb _ _ h.0, (not_of_false _ (ne_eqb _ _ h.1), tt)));
+      from = λ h. row_taken _ _ _ (true_all _ (lt-ltb _ _ h.0, (not_of_false _ (ne_eqb _ _ h.1), tt)));
     }
 
-pub wr4-exact : (byte : ℕ) → Exactly (selects byte ≡ 4) ((128 ≤ byte) × (byte % 4 ≡ 1))
+pub wr4_exact : (byte : ℕ) → Exactly (selects byte ≡ 4) ((128 ≤ byte) × (byte % 4 ≡ 1))
 unfolding selects
-wr4-exact byte =
+wr4_exact byte =
     record {
       to =
           λ e.
@@ -74,38 +74,38 @@ wr4-exact byte =
           ((λ t. let h = all_true _ t in (leb-true _ _ h.0, eqb-true _ _ h.1.0)), tt);
       from =
           λ h.
-          row-passed _ _ _ (every-at 0 _ (le-ltb byte 128 h.0))
-          ∙ row-passed _ _ _ (every-at 0 _ (le-ltb byte 128 h.0))
-          ∙ row-passed _ _ _ (every-at 0 _ (le-ltb byte 128 h.0))
-          ∙ row-passed _ _ _ (every-at 1 _ (ne_eqb (byte % 4) 0 (λ z. let e = h.1 in omega (arith, e, z))))
-          ∙ row-taken _ _ _ (true-all _ (le-leb _ _ h.0, (eq-eqb _ _ h.1, tt)));
+          row_passed _ _ _ (every_at 0 _ (le-ltb byte 128 h.0))
+          ∙ row_passed _ _ _ (every_at 0 _ (le-ltb byte 128 h.0))
+          ∙ row_passed _ _ _ (every_at 0 _ (le-ltb byte 128 h.0))
+          ∙ row_passed _ _ _ (every_at 1 _ (ne_eqb (byte % 4) 0 (λ z. let e = h.1 in omega (arith, e, z))))
+          ∙ row_taken _ _ _ (true_all _ (le-leb _ _ h.0, (eq-eqb _ _ h.1, tt)));
     }
 
-idle-register : (byte : ℕ) (c : Core) → selects byte ≡ 7 → register (selects byte) byte c ≡ c
+idle_register : (byte : ℕ) (c : Core) → selects byte ≡ 7 → register (selects byte) byte c ≡ c
 unfolding register first_of pick
-idle-register byte c e = simp e
+idle_register byte c e = simp e
 
 -- BB selects WR6
-mask-selects : selects 0xBB ≡ 6
+mask_selects : selects 0xBB ≡ 6
 unfolding opened
-mask-selects = refl
+mask_selects = refl
 
-not-mask : (byte : ℕ) → selects byte ≡ 7 → eqb byte 0xBB ≡ false
-not-mask byte e = ne_eqb _ _ (λ (d : byte ≡ 0xBB). let m = sym e ∙ ap selects d ∙ mask-selects in omega (arith, m))
+not_mask : (byte : ℕ) → selects byte ≡ 7 → eqb byte 0xBB ≡ false
+not_mask byte e = ne_eqb _ _ (λ (d : byte ≡ 0xBB). let m = sym e ∙ ap selects d ∙ mask_selects in omega (arith, m))
 
-idle-asked : (byte p : ℕ) → selects byte ≡ 7 → asked byte p ≡ p
+idle_asked : (byte p : ℕ) → selects byte ≡ 7 → asked byte p ≡ p
 unfolding asked first_of pick
-idle-asked byte p e = simp (e, not-mask byte e)
+idle_asked byte p e = simp (e, not_mask byte e)
 
-idle-effect : (byte : ℕ) (c : Core) → selects byte ≡ 7 → isPending c.pending ≡ false → effect byte c ≡ c
-unfolding effectOver carriedOutAs pendingAfterAs
-idle-effect byte c h p =
-    let q : pendingAfter byte c.pending ≡ c.pending = pick-false _ _ _ p ∙ idle-asked byte _ h in
-    let d : carriedOut byte c ≡ c = pick-false _ _ _ p ∙ idle-register byte c h in
-    λ i. withPending (q i) (d i)
+idle_effect : (byte : ℕ) (c : Core) → selects byte ≡ 7 → is_pending c.pending ≡ false → effect byte c ≡ c
+unfolding effect_over carried_out_as pending_after_as
+idle_effect byte c h p =
+    let q : pending_after byte c.pending ≡ c.pending = pick-false _ _ _ p ∙ idle_asked byte _ h in
+    let d : carried_out byte c ≡ c = pick-false _ _ _ p ∙ idle_register byte c h in
+    λ i. with_pending (q i) (d i)
 
-idle-written : (port byte : ℕ) (c : Core) → selected byte ≡ 0 → isPending c.pending ≡ false → written port byte c ≡ inMode port c
-idle-written port byte c e p = idle-effect byte (inMode port c) (idle byte e) p
+idle_written : (port byte : ℕ) (c : Core) → selected byte ≡ 0 → is_pending c.pending ≡ false → written port byte c ≡ in_mode port c
+idle_written port byte c e p = idle_effect byte (in_mode port c) (idle byte e) p
 
-pub selection-exact : SelectionExact
-selection-exact = record { one = one-register; none = no_register; wr0 = wr0-exact; wr4 = wr4-exact; idle = idle-written }
+pub selection_exact : SelectionExact
+selection_exact = record { one = one_register; none = no_register; wr0 = wr0_exact; wr4 = wr4_exact; idle = idle_written }

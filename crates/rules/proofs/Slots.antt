@@ -8,41 +8,41 @@ use mathlib.Core.Bool.{Bool, true, false, not}
 use mathlib.Core.List.{[], ◌∷◌}
 use lib.Dec.{ltb, eqb}
 use borrow.Author.Tests.{ltb-true, ltb-false, leb-true, eqb-true, eqb-false, eq-eqb, ne_eqb, lt-ltb}
-use Rattle.rules.specs.Slots.{larger, newSlot, slot_of, waiting, busHeld, unmoved}
+use Rattle.rules.specs.Slots.{larger, new_slot, slot_of, waiting, bus_held, unmoved}
 use Rattle.rules.specs.Facts.{ValidSlot, resting, running}
 use Rattle.rules.specs.declared.Slot.{Slot}
 use Rattle.rules.specs.declared.Core.{Core}
-use Rattle.rules.proofs.Choice.{clash, pick_true, pick-false, pick-cases, pick-both, not_of_false, either, all_true, true-all, any-first, any-more, any-cases, any_none}
+use Rattle.rules.proofs.Choice.{clash, pick_true, pick-false, pick-cases, pick-both, not_of_false, either, all_true, true_all, any_first, any_more, any-cases, any_none}
 
 -- the next clock begins a slot, or is one of the slot that runs
-pub slot-begins : (c : Core) → c.slot.elapsed ≡ 0 → slot_of c ≡ newSlot c
+pub slot_begins : (c : Core) → c.slot.elapsed ≡ 0 → slot_of c ≡ new_slot c
 unfolding slot_of
-slot-begins c e = pick_true _ _ _ (eq-eqb _ _ e)
+slot_begins c e = pick_true _ _ _ (eq-eqb _ _ e)
 
-pub slot-runs : (c : Core) → (c.slot.elapsed ≡ 0 → ⊥) → slot_of c ≡ c.slot
+pub slot_runs : (c : Core) → (c.slot.elapsed ≡ 0 → ⊥) → slot_of c ≡ c.slot
 unfolding slot_of
-slot-runs c e = pick-false _ _ _ (ne_eqb _ _ e)
+slot_runs c e = pick-false _ _ _ (ne_eqb _ _ e)
 
 -- what holds of the slot that begins, where none runs, and of the one that runs, holds of the one that runs, or else begins
-pub slot_cases : (P : Slot → Type 0) (c : Core) → (c.slot.elapsed ≡ 0 → P (newSlot c)) → ((c.slot.elapsed ≡ 0 → ⊥) → P c.slot) → P (slot_of c)
+pub slot_cases : (P : Slot → Type 0) (c : Core) → (c.slot.elapsed ≡ 0 → P (new_slot c)) → ((c.slot.elapsed ≡ 0 → ⊥) → P c.slot) → P (slot_of c)
 unfolding slot_of
 slot_cases P c f g =
     pick-cases P (eqb c.slot.elapsed 0) _ _ (λ e. f (eqb-true _ _ e)) (λ e. g (eqb-false _ _ e))
 
 -- ---- the larger of two numbers
 
-pub larger-left : (x y : ℕ) → x ≤ larger x y
+pub larger_left : (x y : ℕ) → x ≤ larger x y
 unfolding larger
-larger-left x y = pick-cases (λ n. x ≤ n) (ltb x y) y x (λ e. le_of_lt (ltb-true _ _ e)) (λ e. le_refl x)
+larger_left x y = pick-cases (λ n. x ≤ n) (ltb x y) y x (λ e. le_of_lt (ltb-true _ _ e)) (λ e. le_refl x)
 
-pub larger-right : (x y : ℕ) → y ≤ larger x y
+pub larger_right : (x y : ℕ) → y ≤ larger x y
 unfolding larger
-larger-right x y = pick-cases (λ n. y ≤ n) (ltb x y) y x (λ e. le_refl y) (λ e. ltb-false _ _ e)
+larger_right x y = pick-cases (λ n. y ≤ n) (ltb x y) y x (λ e. le_refl y) (λ e. ltb-false _ _ e)
 
 -- is one of them
-pub larger-cases : (P : ℕ → Type 0) (x y : ℕ) → P x → P y → P (larger x y)
+pub larger_cases : (P : ℕ → Type 0) (x y : ℕ) → P x → P y → P (larger x y)
 unfolding larger
-larger-cases P x y p q = pick-both P (ltb x y) y x q p
+larger_cases P x y p q = pick-both P (ltb x y) y x q p
 
 -- ---- waiting
 
@@ -52,9 +52,9 @@ pub record Waiting (s : Slot) : Type 0 where
   pub past : s.bus ≤ s.elapsed
   pub below : s.elapsed < s.length
 
-waiting-facts : (s : Slot) → waiting s ≡ true → Waiting s
+waiting_facts : (s : Slot) → waiting s ≡ true → Waiting s
 unfolding waiting
-waiting-facts s e =
+waiting_facts s e =
     let h = all_true _ e in
     record {
       burst = h.0;
@@ -66,22 +66,22 @@ pub unmoved-cases {ℓ} : {X : Type ℓ} (s : Slot) → unmoved s ≡ true → (
 unfolding unmoved
 unmoved-cases s e f g = any-cases _ _ e (λ d. f (eqb-true _ _ d)) (λ r. any-cases _ _ r (λ d. g (ltb-true _ _ d)) any_none)
 
-pub unmoved-first : (s : Slot) → s.elapsed ≡ 0 → unmoved s ≡ true
+pub unmoved_first : (s : Slot) → s.elapsed ≡ 0 → unmoved s ≡ true
 unfolding unmoved
-unmoved-first s e = any-first _ _ (eq-eqb _ _ e)
+unmoved_first s e = any_first _ _ (eq-eqb _ _ e)
 
-pub unmoved-below : (s : Slot) → s.elapsed < s.bus → unmoved s ≡ true
+pub unmoved_below : (s : Slot) → s.elapsed < s.bus → unmoved s ≡ true
 unfolding unmoved
-unmoved-below s h = any-more _ _ (any-first _ _ (lt-ltb _ _ h))
+unmoved_below s h = any_more _ _ (any_first _ _ (lt-ltb _ _ h))
 
 -- a device that waits in a burst slot has moved the slot's byte
-waiting-moved : (t : Bool) (s : Slot) → ValidSlot t s → Waiting s → unmoved s ≡ true → ⊥
-waiting-moved t s (resting r) w u = omega arith
-waiting-moved t s (running on r) w u = unmoved-cases s u (λ z. omega arith) (λ z. omega arith)
+waiting_moved : (t : Bool) (s : Slot) → ValidSlot t s → Waiting s → unmoved s ≡ true → ⊥
+waiting_moved t s (resting r) w u = omega arith
+waiting_moved t s (running on r) w u = unmoved-cases s u (λ z. omega arith) (λ z. omega arith)
 
 -- while the bus is free, an enabled device has moved its slot's byte
-pub free-settled : (c : Core) → ValidSlot c.enabled c.slot → busHeld c ≡ false → c.enabled ≡ true → unmoved c.slot ≡ true → ⊥
-unfolding busHeld
-free-settled c v e on u =
-    either (waiting c.slot) (λ w. waiting-moved _ _ v (waiting-facts _ w) u)
-    (λ w. clash (sym e ∙ true-all (c.enabled ∷ not (waiting c.slot) ∷ []) (on, (not_of_false _ w, tt))))
+pub free_settled : (c : Core) → ValidSlot c.enabled c.slot → bus_held c ≡ false → c.enabled ≡ true → unmoved c.slot ≡ true → ⊥
+unfolding bus_held
+free_settled c v e on u =
+    either (waiting c.slot) (λ w. waiting_moved _ _ v (waiting_facts _ w) u)
+    (λ w. clash (sym e ∙ true_all (c.enabled ∷ not (waiting c.slot) ∷ []) (on, (not_of_false _ w, tt))))

@@ -7,30 +7,30 @@ use mathlib.Core.Bool.{Bool, true, not}
 use mathlib.Core.List.{[], ◌∷◌}
 use lib.Dec.{eqb}
 use borrow.Author.Tests.{eq-eqb, ne_eqb, le-leb, lt-leb}
-use Rattle.rules.specs.Choice.{pick, firstHit, any}
-use Rattle.rules.specs.Parts.{withSpeed, withControl, withSlot}
-use Rattle.rules.specs.Speed.{factor, atSpeed}
-use Rattle.rules.specs.Slots.{busTimeOf, larger, slotLength, newSlot}
-use Rattle.rules.specs.Validity.{validCore, valid, total}
-use Rattle.rules.specs.Clock.{Clock, clock, clockOf, slotClock}
+use Rattle.rules.specs.Choice.{pick, first_hit, any}
+use Rattle.rules.specs.Parts.{with_speed, with_control, with_slot}
+use Rattle.rules.specs.Speed.{factor, at_speed}
+use Rattle.rules.specs.Slots.{bus_time_of, larger, slot_length, new_slot}
+use Rattle.rules.specs.Validity.{valid_core, valid, total}
+use Rattle.rules.specs.Clock.{Clock, clock, clock_of, slot_clock}
 use Rattle.rules.specs.Buffers.{Store}
 use Rattle.rules.specs.World.{System}
-use Rattle.rules.specs.Refusals.{speedRefusal, speedRefusalIf}
-use Rattle.rules.specs.Calls.{Answer, accepted, refused, unlessRefused, writeReply, readReply, speedReply, grant, writeReplyOver, readReplyOver, speedReplyOver, grantOver}
-use Rattle.rules.specs.Entries.{Outside, speedCall}
-use Rattle.rules.specs.History.{Past, withCore, notedUnless, noteEntry}
-use Rattle.rules.specs.Slowing.{clockAtSpeed, LargerOf, SpeedExact}
+use Rattle.rules.specs.Refusals.{speed_refusal, speed_refusal_if}
+use Rattle.rules.specs.Calls.{Answer, accepted, refused, unless_refused, write_reply, read_reply, speed_reply, grant, write_reply_over, read_reply_over, speed_reply_over, grant_over}
+use Rattle.rules.specs.Entries.{Outside, speed_call}
+use Rattle.rules.specs.History.{Past, with_core, noted_unless, note_entry}
+use Rattle.rules.specs.Slowing.{clock_at_speed, LargerOf, SpeedExact}
 use Rattle.rules.specs.declared.Slot.{Slot}
 use Rattle.rules.specs.declared.Clocks.{Clocks}
 use Rattle.rules.specs.declared.Core.{Core}
-use Rattle.rules.proofs.Choice.{pick_true, pick-false, pick-both, both-picked, any-first, any-more, either, not_of_false}
-use Rattle.rules.proofs.Validity.{valid-bus}
-use Rattle.rules.proofs.Slots.{slot-runs, larger-left, larger-right, larger-cases}
-use Rattle.rules.proofs.Clock.{new-length}
-use Rattle.rules.proofs.World.{clocked-keeps}
-use Rattle.rules.proofs.Calls.{unless-core, invalid-set-speed}
-use Rattle.rules.proofs.Aside.{slot-speed}
-use Rattle.rules.proofs.Framing.{written-framed, read-framed, clock-timed}
+use Rattle.rules.proofs.Choice.{pick_true, pick-false, pick-both, both-picked, any_first, any_more, either, not_of_false}
+use Rattle.rules.proofs.Validity.{valid_bus}
+use Rattle.rules.proofs.Slots.{slot_runs, larger_left, larger_right, larger_cases}
+use Rattle.rules.proofs.Clock.{new_length}
+use Rattle.rules.proofs.World.{clocked_keeps}
+use Rattle.rules.proofs.Calls.{unless_core, invalid_set_speed}
+use Rattle.rules.proofs.Aside.{slot_speed}
+use Rattle.rules.proofs.Framing.{written_framed, read_framed, clock_timed}
 
 -- ---- what leaves the speed
 
@@ -42,127 +42,127 @@ Any s = Unit {0}
 abbrev SpeedOf : Core → Core → Type 0
 SpeedOf c d = d.control.speed ≡ c.control.speed
 
-write-speed : (c : Core) (k : Clocks) (port byte : ℕ) → (writeReply c k port byte).core.control.speed ≡ c.control.speed
-unfolding writeReplyOver
-write-speed c k port byte = unless-core (SpeedOf c) _ _ _ _ c k (λ e. (written-framed _ Any tt port byte c (refl, tt)).0) refl
+write_speed : (c : Core) (k : Clocks) (port byte : ℕ) → (write_reply c k port byte).core.control.speed ≡ c.control.speed
+unfolding write_reply_over
+write_speed c k port byte = unless_core (SpeedOf c) _ _ _ _ c k (λ e. (written_framed _ Any tt port byte c (refl, tt)).0) refl
 
-read-speed : (c : Core) (k : Clocks) (port : ℕ) → (readReply c k port).core.control.speed ≡ c.control.speed
-unfolding readReplyOver
-read-speed c k port = unless-core (SpeedOf c) _ _ _ _ c k (λ e. (read-framed _ Any tt c (refl, tt)).0) refl
+read_speed : (c : Core) (k : Clocks) (port : ℕ) → (read_reply c k port).core.control.speed ≡ c.control.speed
+unfolding read_reply_over
+read_speed c k port = unless_core (SpeedOf c) _ _ _ _ c k (λ e. (read_framed _ Any tt c (refl, tt)).0) refl
 
-clock-speed : (c : Core) → (clockOf c).next.control.speed ≡ c.control.speed
-clock-speed c = (clock-timed (λ a b control pending. control.speed ≡ c.control.speed) Any tt c (refl, tt) tt).0
+clock_speed : (c : Core) → (clock_of c).next.control.speed ≡ c.control.speed
+clock_speed c = (clock_timed (λ a b control pending. control.speed ≡ c.control.speed) Any tt c (refl, tt) tt).0
 
-grant-speed : {M : Type 0} (σ : Store M) (s : System M) (n : ℕ) → (grant σ s n).system.world.core.control.speed ≡ s.world.core.control.speed
-unfolding grantOver
-grant-speed σ s n =
+grant_speed : {M : Type 0} (σ : Store M) (s : System M) (n : ℕ) → (grant σ s n).system.world.core.control.speed ≡ s.world.core.control.speed
+unfolding grant_over
+grant_speed σ s n =
     pick-both (λ (a : Answer _). a.system.world.core.control.speed ≡ s.world.core.control.speed) _ _ _
-    (clocked-keeps σ (λ (t : System _). t.world.core.control.speed ≡ s.world.core.control.speed)
-    (λ t e. clock-speed t.world.core ∙ e) n s refl)
+    (clocked_keeps σ (λ (t : System _). t.world.core.control.speed ≡ s.world.core.control.speed)
+    (λ t e. clock_speed t.world.core ∙ e) n s refl)
     refl
 
 -- ---- a speed call
 
-accepts : (c : Core) (k : Clocks) (code : ℕ) → valid c (total k) ≡ true → code ≤ 3 → speedReply c k code ≡ record { answered = accepted 0; core = withControl (withSpeed code c.control) c; clocks = k }
-unfolding speedReplyOver unlessRefused speedRefusalIf firstHit
+accepts : (c : Core) (k : Clocks) (code : ℕ) → valid c (total k) ≡ true → code ≤ 3 → speed_reply c k code ≡ record { answered = accepted 0; core = with_control (with_speed code c.control) c; clocks = k }
+unfolding speed_reply_over unless_refused speed_refusal_if first_hit
 accepts c k code v h =
     pick_true _ _ _
     (eq-eqb _ _ (pick-false _ _ _ (ap not v) ∙ pick-false _ _ _ (ap not (le-leb code 3 h))))
 
-refuses : (c : Core) (k : Clocks) (code : ℕ) → valid c (total k) ≡ true → 3 < code → speedReply c k code ≡ record { answered = refused 7; core = c; clocks = k }
-unfolding speedReplyOver unlessRefused speedRefusalIf firstHit
+refuses : (c : Core) (k : Clocks) (code : ℕ) → valid c (total k) ≡ true → 3 < code → speed_reply c k code ≡ record { answered = refused 7; core = c; clocks = k }
+unfolding speed_reply_over unless_refused speed_refusal_if first_hit
 refuses c k code v h =
-    let e : speedRefusal c (total k) code ≡ 7 = pick-false _ _ _ (ap not v) ∙ pick_true _ _ _ (ap not (lt-leb code 3 h)) in
-    pick-false _ _ _ (ne_eqb (speedRefusal c (total k) code) 0 (λ z. omega (arith, e, z))) ∙ (λ i. record { answered = refused (e i); core = c; clocks = k })
+    let e : speed_refusal c (total k) code ≡ 7 = pick-false _ _ _ (ap not v) ∙ pick_true _ _ _ (ap not (lt-leb code 3 h)) in
+    pick-false _ _ _ (ne_eqb (speed_refusal c (total k) code) 0 (λ z. omega (arith, e, z))) ∙ (λ i. record { answered = refused (e i); core = c; clocks = k })
 
 -- ---- its note
 
 module _ {M C : Type 0} (σ : Store M) (ω : Outside M C) (p : Past M) (code : ℕ) where
-  notes : valid p.world.core p.sum ≡ true → code ≤ 3 → noteEntry σ ω (speedCall code) p ≡ record { number = 0; past = withCore (atSpeed code p.world.core) p }
-  unfolding notedUnless speedRefusalIf firstHit
+  notes : valid p.world.core p.sum ≡ true → code ≤ 3 → note_entry σ ω (speed_call code) p ≡ record { number = 0; past = with_core (at_speed code p.world.core) p }
+  unfolding noted_unless speed_refusal_if first_hit
   notes v h =
-      let e : speedRefusal p.world.core p.sum code ≡ 0 = pick-false _ _ _ (ap not v) ∙ pick-false _ _ _ (ap not (le-leb code 3 h)) in
-      (λ i. record { number = e i; past = pick_true _ (withCore (atSpeed code p.world.core) p) p (eq-eqb _ 0 e) i })
+      let e : speed_refusal p.world.core p.sum code ≡ 0 = pick-false _ _ _ (ap not v) ∙ pick-false _ _ _ (ap not (le-leb code 3 h)) in
+      (λ i. record { number = e i; past = pick_true _ (with_core (at_speed code p.world.core) p) p (eq-eqb _ 0 e) i })
 
-  leaves : ((noteEntry σ ω (speedCall code) p).number ≡ 0 → ⊥) → (noteEntry σ ω (speedCall code) p).past ≡ p
-  unfolding notedUnless
+  leaves : ((note_entry σ ω (speed_call code) p).number ≡ 0 → ⊥) → (note_entry σ ω (speed_call code) p).past ≡ p
+  unfolding noted_unless
   leaves n = pick-false _ _ _ (ne_eqb _ _ n)
 
 -- ---- a slot that runs
 
 -- each clock of it is the same but for the speed after it
-running : (c : Core) (code : ℕ) → (c.slot.elapsed ≡ 0 → ⊥) → clockOf (atSpeed code c) ≡ clockAtSpeed code (clockOf c)
-unfolding clockOf
+running : (c : Core) (code : ℕ) → (c.slot.elapsed ≡ 0 → ⊥) → clock_of (at_speed code c) ≡ clock_at_speed code (clock_of c)
+unfolding clock_of
 running c code h =
-    both-picked (λ (x y : Clock). y ≡ clockAtSpeed code x) c.enabled _ _ _ _
+    both-picked (λ (x y : Clock). y ≡ clock_at_speed code x) c.enabled _ _ _ _
     (λ on.
-    ap (λ (s : Slot). slotClock (c.slot.elapsed + 1) (withSlot s (atSpeed code c))) (slot-runs (atSpeed code c) h)
-    ∙ slot-speed code (c.slot.elapsed + 1) c
-    ∙ ap (λ (s : Slot). clockAtSpeed code (slotClock (c.slot.elapsed + 1) (withSlot s c))) (sym (slot-runs c h)))
+    ap (λ (s : Slot). slot_clock (c.slot.elapsed + 1) (with_slot s (at_speed code c))) (slot_runs (at_speed code c) h)
+    ∙ slot_speed code (c.slot.elapsed + 1) c
+    ∙ ap (λ (s : Slot). clock_at_speed code (slot_clock (c.slot.elapsed + 1) (with_slot s c))) (sym (slot_runs c h)))
     (λ off. refl)
 
 -- ---- the slot that begins
 
-plain-length : (c : Core) → c.control.prescaler ≡ 0 → (newSlot c).length ≡ (newSlot c).bus
-unfolding slotLength
-plain-length c e = pick_true _ _ _ (eq-eqb _ _ e)
+plain_length : (c : Core) → c.control.prescaler ≡ 0 → (new_slot c).length ≡ (new_slot c).bus
+unfolding slot_length
+plain_length c e = pick_true _ _ _ (eq-eqb _ _ e)
 
-larger-of : (prescaler bus elapsed : ℕ) (burst : Bool) → LargerOf prescaler (record { elapsed = elapsed; bus = bus; length = larger bus (32 * prescaler); burst = burst })
-larger-of prescaler bus elapsed burst =
+larger_of : (prescaler bus elapsed : ℕ) (burst : Bool) → LargerOf prescaler (record { elapsed = elapsed; bus = bus; length = larger bus (32 * prescaler); burst = burst })
+larger_of prescaler bus elapsed burst =
     record {
-      bus = larger-left _ _;
-      units = larger-right bus (32 * prescaler);
+      bus = larger_left _ _;
+      units = larger_right bus (32 * prescaler);
       one =
-          larger-cases (λ n. any (eqb n bus ∷ eqb n (32 * prescaler) ∷ []) ≡ true) bus (32 * prescaler)
-          (any-first _ _ (eq-eqb bus bus refl)) (any-more _ _ (any-first _ _ (eq-eqb (32 * prescaler) (32 * prescaler) refl)));
+          larger_cases (λ n. any (eqb n bus ∷ eqb n (32 * prescaler) ∷ []) ≡ true) bus (32 * prescaler)
+          (any_first _ _ (eq-eqb bus bus refl)) (any_more _ _ (any_first _ _ (eq-eqb (32 * prescaler) (32 * prescaler) refl)));
     }
 
-prescaled-length : (c : Core) → (c.control.prescaler ≡ 0 → ⊥) → LargerOf c.control.prescaler (newSlot c)
-unfolding slotLength
-prescaled-length c h =
-    rw (pick-false _ (newSlot c).bus (larger (newSlot c).bus (32 * c.control.prescaler)) (ne_eqb c.control.prescaler 0 h))
-    (larger-of c.control.prescaler (newSlot c).bus 0 c.control.burst)
+prescaled_length_lem : (c : Core) → (c.control.prescaler ≡ 0 → ⊥) → LargerOf c.control.prescaler (new_slot c)
+unfolding slot_length
+prescaled_length_lem c h =
+    rw (pick-false _ (new_slot c).bus (larger (new_slot c).bus (32 * c.control.prescaler)) (ne_eqb c.control.prescaler 0 h))
+    (larger_of c.control.prescaler (new_slot c).bus 0 c.control.burst)
 
 -- ---- its bus time
 
-range : (c : Core) → validCore c ≡ true → (4 ≤ (newSlot c).bus) × ((newSlot c).bus ≤ 64)
-range c v = let r = valid-bus c v in (r.least, r.most)
+range : (c : Core) → valid_core c ≡ true → (4 ≤ (new_slot c).bus) × ((new_slot c).bus ≤ 64)
+range c v = let r = valid_bus c v in (r.least, r.most)
 
 -- ---- the claim
 
-four-factors : (factor 0 ≡ 8) × (factor 1 ≡ 4) × (factor 2 ≡ 2) × (factor 3 ≡ 1)
+four_factors : (factor 0 ≡ 8) × (factor 1 ≡ 4) × (factor 2 ≡ 2) × (factor 3 ≡ 1)
 unfolding factor pick
-four-factors = (refl, refl, refl, refl)
+four_factors = (refl, refl, refl, refl)
 
-factor-above : (code : ℕ) → 3 < code → factor code ≡ 1
+factor_above : (code : ℕ) → 3 < code → factor code ≡ 1
 unfolding factor
-factor-above code h = pick-false _ _ _ (lt-leb code 3 h)
+factor_above code h = pick-false _ _ _ (lt-leb code 3 h)
 
-new-bus-time : (c : Core) → (newSlot c).bus ≡ factor c.control.speed * (c.a.cycle + c.b.cycle)
-unfolding busTimeOf
-new-bus-time c = refl
+new_bus_time : (c : Core) → (new_slot c).bus ≡ factor c.control.speed * (c.a.cycle + c.b.cycle)
+unfolding bus_time_of
+new_bus_time c = refl
 
-pub speed-exact : SpeedExact
-speed-exact =
+pub speed_exact : SpeedExact
+speed_exact =
     record {
-      powerOn = refl;
-      write = write-speed;
-      read = read-speed;
-      clock = clock-speed;
-      granted = grant-speed;
+      power_on = refl;
+      write = write_speed;
+      read = read_speed;
+      clock = clock_speed;
+      granted = grant_speed;
       accepted = accepts;
       sets = λ c code. refl;
       back = λ c code. refl;
       seven = refuses;
-      one = λ c k code h. invalid-set-speed c k code (either (valid c (total k)) (λ v. absurd (h v)) (not_of_false _));
+      one = λ c k code h. invalid_set_speed c k code (either (valid c (total k)) (λ v. absurd (h v)) (not_of_false _));
       noted = notes;
       unnoted = leaves;
       running = running;
-      factors = four-factors;
-      above = factor-above;
-      bus = new-bus-time;
+      factors = four_factors;
+      above = factor_above;
+      bus = new_bus_time;
       range = range;
-      plain = plain-length;
-      prescaled = prescaled-length;
-      length = λ c k. new-length c k.range.prescaler;
+      plain = plain_length;
+      prescaled = prescaled_length_lem;
+      length = λ c k. new_length c k.range.prescaler;
     }

@@ -5,13 +5,13 @@ use Rattle.rules.specs.Choice.{pick}
 use Rattle.rules.specs.declared.Block.{Block}
 
 -- the bytes of a block: the length in zxn mode, one more in Zilog mode, so 0 to 65,536
-unfoldable pub blockCount : Block → ℕ
-blockCount b = pick b.zilog (b.length + 1) b.length
+unfoldable pub block_count : Block → ℕ
+block_count b = pick b.zilog (b.length + 1) b.length
 
 -- the bytes that the counter is short of the block count, modulo 2^32
-abbrev pub bytesLeft : Block → ℕ
-bytesLeft b = (blockCount b + (4294967296 - b.counter)) % 4294967296
+abbrev pub bytes_left : Block → ℕ
+bytes_left b = (block_count b + (4294967296 - b.counter)) % 4294967296
 
 -- the counter is at or above the block count
 unfoldable pub finished : Block → Bool
-finished b = leb (blockCount b) b.counter
+finished b = leb (block_count b) b.counter

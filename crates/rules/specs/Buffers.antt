@@ -3,7 +3,7 @@
 -- Assumes nothing.
 use Rattle.std.specs.Prelude.{ℕ, ◌+◌, ◌≡◌, not, List, [], ◌∷◌, eqb, length, get_or, set}
 use Rattle.std.proofs.Common.{ap, length-set}
-use Rattle.rules.specs.Choice.{pick, test, firstHit}
+use Rattle.rules.specs.Choice.{pick, test, first_hit}
 use Rattle.rules.specs.declared.Port.{Port}
 use Rattle.rules.specs.declared.Place.{Place}
 use Rattle.rules.specs.declared.Core.{Core}
@@ -19,11 +19,11 @@ pub record Store (M : Type 0) : Type 0 where
   pub load : M → ℕ → ℕ
   pub store : M → ℕ → ℕ → M
   pub refusal : M → ℕ
-  pub refusal-kept : (m : M) (address byte : ℕ) → refusal (store m address byte) ≡ refusal m
+  pub refusal_kept : (m : M) (address byte : ℕ) → refusal (store m address byte) ≡ refusal m
 
 -- a grant refuses a flat memory of this length with 4 where it is not 65,536
-abbrev pub lengthRefusal : ℕ → ℕ
-lengthRefusal n = firstHit (test 4 (not (eqb n 65536)) ∷ [])
+abbrev pub length_refusal : ℕ → ℕ
+length_refusal n = first_hit (test 4 (not (eqb n 65536)) ∷ [])
 
 -- the flat memory is its list of bytes
 abbrev pub flat : Store (List ℕ)
@@ -31,8 +31,8 @@ flat =
     record {
       load = λ m address. get_or m address 0;
       store = λ m address byte. set m address byte;
-      refusal = λ m. lengthRefusal (length m);
-      refusal-kept = λ m address byte. ap lengthRefusal (length-set m address byte);
+      refusal = λ m. length_refusal (length m);
+      refusal_kept = λ m address byte. ap length_refusal (length-set m address byte);
     }
 
 pub record Buffers (M : Type 0) : Type 0 where
@@ -53,8 +53,8 @@ destination c = pick c.control.forward (place_of c.b) (place_of c.a)
 
 module _ {M : Type 0} (σ : Store M) where
   -- an I/O read gives the latch at the address; reading changes nothing
-  unfoldable pub byteAt : Place → Buffers M → ℕ
-  byteAt p b = pick p.io (get_or b.latches p.address 0) (σ.load b.memory p.address)
+  unfoldable pub byte_at : Place → Buffers M → ℕ
+  byte_at p b = pick p.io (get_or b.latches p.address 0) (σ.load b.memory p.address)
 
   -- an I/O write sets the latch and does nothing else, also at the DMA's own port (ours)
   unfoldable pub put : Place → ℕ → Buffers M → Buffers M
@@ -65,4 +65,4 @@ module _ {M : Type 0} (σ : Store M) where
 
   -- one byte moves
   abbrev pub transfer : Place → Place → Buffers M → Buffers M
-  transfer from to b = put to (byteAt from b) b
+  transfer from to b = put to (byte_at from b) b

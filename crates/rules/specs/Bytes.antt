@@ -14,13 +14,13 @@ bit k byte = eqb (byte / 2 ^ k % 2) 1
 abbrev pub low_byte : ℕ → ℕ
 low_byte n = n % 256
 
-abbrev pub highByte : ℕ → ℕ
-highByte n = n / 256 % 256
+abbrev pub high_byte : ℕ → ℕ
+high_byte n = n / 256 % 256
 
 -- the number with its low byte replaced and its high byte as it was
-abbrev pub withLow : ℕ → ℕ → ℕ
-withLow byte n = n / 256 * 256 + byte
+abbrev pub with_low : ℕ → ℕ → ℕ
+with_low byte n = n / 256 * 256 + byte
 
 -- the number with its high byte replaced and its low byte as it was
-abbrev pub withHigh : ℕ → ℕ → ℕ
-withHigh byte n = byte * 256 + n % 256
+abbrev pub with_high : ℕ → ℕ → ℕ
+with_high byte n = byte * 256 + n % 256

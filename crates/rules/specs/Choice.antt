@@ -44,6 +44,6 @@ abbrev pub test : ℕ → Bool → Test
 test n t = record { number = n; hit = t }
 
 -- the number of the first test that hits; 0 where none does
-unfoldable pub firstHit : List Test → ℕ
-firstHit [] = 0
-firstHit (t ∷ ts) = pick t.hit t.number (firstHit ts)
+unfoldable pub first_hit : List Test → ℕ
+first_hit [] = 0
+first_hit (t ∷ ts) = pick t.hit t.number (first_hit ts)

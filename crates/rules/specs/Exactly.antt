@@ -3,20 +3,20 @@
 use Rattle.std.specs.Prelude.{ℕ, zero, suc, ◌+◌, ◌*◌, ◌%◌, ◌^◌, ◌≤◌, ◌<◌, ◌≡◌, Bool, true, false, not, List, [], ◌∷◌, leb, ltb, eqb, length}
 use Rattle.rules.specs.Choice.{pick, every, any}
 use Rattle.rules.specs.Bytes.{bit}
-use Rattle.rules.specs.Blocks.{blockCount, finished}
-use Rattle.rules.specs.Speed.{atSpeed}
-use Rattle.rules.specs.Slots.{busHeld}
-use Rattle.rules.specs.Selection.{isWR0, isWR1, isWR2, isWR4, selections, selects}
-use Rattle.rules.specs.Pending.{aLow, aHigh, lengthLow, lengthHigh, aTiming, bTiming, prescaler, bLow, bHigh, readMask, nothing, next, isPending, rest, wr0Asks, timingAsks, wr4Asks, pendingAfter, validPending}
-use Rattle.rules.specs.Validity.{validPort, validReadback, validSlot, validCore, valid, total, most64}
+use Rattle.rules.specs.Blocks.{block_count, finished}
+use Rattle.rules.specs.Speed.{at_speed}
+use Rattle.rules.specs.Slots.{bus_held}
+use Rattle.rules.specs.Selection.{is_wr0, is_wr1, is_wr2, is_wr4, selections, selects}
+use Rattle.rules.specs.Pending.{a_low, a_high, length_low, length_high, a_timing, b_timing, prescaler, b_low, b_high, read_mask, nothing, next, is_pending, rest, wr0_asks, timing_asks, wr4_asks, pending_after, valid_pending}
+use Rattle.rules.specs.Validity.{valid_port, valid_readback, valid_slot, valid_core, valid, total, most64}
 use Rattle.rules.specs.Facts.{ValidParts, ValidCycle, ValidReading, ValidSlot}
-use Rattle.rules.specs.Registers.{carriedOut, inMode, written}
-use Rattle.rules.specs.Readback.{registerByte, after, chosen, readByte}
-use Rattle.rules.specs.Clock.{clockOf}
+use Rattle.rules.specs.Registers.{carried_out, in_mode, written}
+use Rattle.rules.specs.Readback.{register_byte, after, chosen, read_byte}
+use Rattle.rules.specs.Clock.{clock_of}
 use Rattle.rules.specs.Buffers.{Store, flat, Buffers}
 use Rattle.rules.specs.World.{System}
-use Rattle.rules.specs.Refusals.{wrongPort, accessRefusal, speedRefusal, grantRefusal}
-use Rattle.rules.specs.Calls.{refused, writeReply, readReply, speedReply, grantNumber, grant}
+use Rattle.rules.specs.Refusals.{wrong_port, access_refusal, speed_refusal, grant_refusal}
+use Rattle.rules.specs.Calls.{refused, write_reply, read_reply, speed_reply, grant_number, grant}
 use Rattle.rules.specs.declared.Port.{Port}
 use Rattle.rules.specs.declared.Block.{Block}
 use Rattle.rules.specs.declared.Readback.{Readback}
@@ -33,34 +33,34 @@ pub record Exactly (P Q : Type 0) : Type 0 where
 
 -- the number of a port write or a port read, as equations of tests
 pub record AccessExact (c : Core) (sum port : ℕ) : Type 0 where
-  pub one : eqb (accessRefusal c sum port) 1 ≡ not (valid c sum)
-  pub two : eqb (accessRefusal c sum port) 2 ≡ every (valid c sum ∷ wrongPort port ∷ [])
-  pub three : eqb (accessRefusal c sum port) 3 ≡ every (valid c sum ∷ not (wrongPort port) ∷ busHeld c ∷ [])
-  pub none : eqb (accessRefusal c sum port) 0 ≡ every (valid c sum ∷ not (wrongPort port) ∷ not (busHeld c) ∷ [])
-  pub most : accessRefusal c sum port ≤ 3
+  pub one : eqb (access_refusal c sum port) 1 ≡ not (valid c sum)
+  pub two : eqb (access_refusal c sum port) 2 ≡ every (valid c sum ∷ wrong_port port ∷ [])
+  pub three : eqb (access_refusal c sum port) 3 ≡ every (valid c sum ∷ not (wrong_port port) ∷ bus_held c ∷ [])
+  pub none : eqb (access_refusal c sum port) 0 ≡ every (valid c sum ∷ not (wrong_port port) ∷ not (bus_held c) ∷ [])
+  pub most : access_refusal c sum port ≤ 3
 
 -- the number of a speed call
 pub record SpeedRefusalExact (c : Core) (sum code : ℕ) : Type 0 where
-  pub one : eqb (speedRefusal c sum code) 1 ≡ not (valid c sum)
-  pub seven : eqb (speedRefusal c sum code) 7 ≡ every (valid c sum ∷ not (leb code 3) ∷ [])
-  pub none : eqb (speedRefusal c sum code) 0 ≡ every (valid c sum ∷ leb code 3 ∷ [])
-  pub other : any (eqb (speedRefusal c sum code) 0 ∷ eqb (speedRefusal c sum code) 1 ∷ eqb (speedRefusal c sum code) 7 ∷ []) ≡ true
+  pub one : eqb (speed_refusal c sum code) 1 ≡ not (valid c sum)
+  pub seven : eqb (speed_refusal c sum code) 7 ≡ every (valid c sum ∷ not (leb code 3) ∷ [])
+  pub none : eqb (speed_refusal c sum code) 0 ≡ every (valid c sum ∷ leb code 3 ∷ [])
+  pub other : any (eqb (speed_refusal c sum code) 0 ∷ eqb (speed_refusal c sum code) 1 ∷ eqb (speed_refusal c sum code) 7 ∷ []) ≡ true
 
 -- the number of a grant with the flat memory
 pub record GrantExact (c : Core) (sum : ℕ) (b : Buffers (List ℕ)) (n : ℕ) : Type 0 where
-  pub one : eqb (grantRefusal flat c sum b n) 1 ≡ not (valid c sum)
-  pub four : eqb (grantRefusal flat c sum b n) 4 ≡ every (valid c sum ∷ not (eqb (length b.memory) 65536) ∷ [])
-  pub five : eqb (grantRefusal flat c sum b n) 5 ≡ every (valid c sum ∷ eqb (length b.memory) 65536 ∷ not (eqb (length b.latches) 65536) ∷ [])
-  pub six : eqb (grantRefusal flat c sum b n) 6 ≡ every (valid c sum ∷ eqb (length b.memory) 65536 ∷ eqb (length b.latches) 65536 ∷ ltb most64 (sum + n) ∷ [])
-  pub none : eqb (grantRefusal flat c sum b n) 0 ≡ every (valid c sum ∷ eqb (length b.memory) 65536 ∷ eqb (length b.latches) 65536 ∷ not (ltb most64 (sum + n)) ∷ [])
-  pub other : eqb (grantRefusal flat c sum b n) 2 ≡ false × eqb (grantRefusal flat c sum b n) 3 ≡ false × grantRefusal flat c sum b n ≤ 6
+  pub one : eqb (grant_refusal flat c sum b n) 1 ≡ not (valid c sum)
+  pub four : eqb (grant_refusal flat c sum b n) 4 ≡ every (valid c sum ∷ not (eqb (length b.memory) 65536) ∷ [])
+  pub five : eqb (grant_refusal flat c sum b n) 5 ≡ every (valid c sum ∷ eqb (length b.memory) 65536 ∷ not (eqb (length b.latches) 65536) ∷ [])
+  pub six : eqb (grant_refusal flat c sum b n) 6 ≡ every (valid c sum ∷ eqb (length b.memory) 65536 ∷ eqb (length b.latches) 65536 ∷ ltb most64 (sum + n) ∷ [])
+  pub none : eqb (grant_refusal flat c sum b n) 0 ≡ every (valid c sum ∷ eqb (length b.memory) 65536 ∷ eqb (length b.latches) 65536 ∷ not (ltb most64 (sum + n)) ∷ [])
+  pub other : eqb (grant_refusal flat c sum b n) 2 ≡ false × eqb (grant_refusal flat c sum b n) 3 ≡ false × grant_refusal flat c sum b n ≤ 6
 
 -- each call answers with that number
 pub record RefusalsExact : Type 0 where
-  pub write : (c : Core) (k : Clocks) (port byte : ℕ) → (writeReply c k port byte).answered.number ≡ accessRefusal c (total k) port
-  pub read : (c : Core) (k : Clocks) (port : ℕ) → (readReply c k port).answered.number ≡ accessRefusal c (total k) port
-  pub speed : (c : Core) (k : Clocks) (code : ℕ) → (speedReply c k code).answered.number ≡ speedRefusal c (total k) code
-  pub granted : (s : System (List ℕ)) (n : ℕ) → (grant flat s n).answered.number ≡ grantNumber flat s n
+  pub write : (c : Core) (k : Clocks) (port byte : ℕ) → (write_reply c k port byte).answered.number ≡ access_refusal c (total k) port
+  pub read : (c : Core) (k : Clocks) (port : ℕ) → (read_reply c k port).answered.number ≡ access_refusal c (total k) port
+  pub speed : (c : Core) (k : Clocks) (code : ℕ) → (speed_reply c k code).answered.number ≡ speed_refusal c (total k) code
+  pub granted : (s : System (List ℕ)) (n : ℕ) → (grant flat s n).answered.number ≡ grant_number flat s n
   pub access : (c : Core) (sum port : ℕ) → AccessExact c sum port
   pub speeds : (c : Core) (sum code : ℕ) → SpeedRefusalExact c sum code
   pub grants : (c : Core) (sum : ℕ) (b : Buffers (List ℕ)) (n : ℕ) → GrantExact c sum b n
@@ -68,10 +68,10 @@ pub record RefusalsExact : Type 0 where
 -- ---- validity: a core passes the test exactly where its parts are valid, and its slot where the facts of one hold
 
 pub record ValidExact : Type 0 where
-  pub parts : (c : Core) → Exactly (validCore c ≡ true) (ValidParts c)
-  pub port : (p : Port) → Exactly (validPort p ≡ true) (ValidCycle p)
-  pub readback : (r : Readback) → Exactly (validReadback r ≡ true) (ValidReading r)
-  pub slot : (enabled : Bool) (s : Slot) → Exactly (validSlot enabled s ≡ true) (ValidSlot enabled s)
+  pub parts : (c : Core) → Exactly (valid_core c ≡ true) (ValidParts c)
+  pub port : (p : Port) → Exactly (valid_port p ≡ true) (ValidCycle p)
+  pub readback : (r : Readback) → Exactly (valid_readback r ≡ true) (ValidReading r)
+  pub slot : (enabled : Bool) (s : Slot) → Exactly (valid_slot enabled s ≡ true) (ValidSlot enabled s)
   -- a core at no speed is not valid, so that every call refuses it with 1
   pub speed : (c : Core) (sum : ℕ) → 3 < c.control.speed → valid c sum ≡ false
 
@@ -79,45 +79,45 @@ pub record ValidExact : Type 0 where
 -- is left of these
 
 pub data Awaited : ℕ → Type 0 where
-  byWR0 : (byte : ℕ) → byte < 256 → isWR0 byte ≡ true → Awaited (wr0Asks byte)
-  byWR1 : (byte : ℕ) → byte < 256 → isWR1 byte ≡ true → Awaited (timingAsks aTiming byte)
-  byWR2 : (byte : ℕ) → byte < 256 → isWR2 byte ≡ true → Awaited (timingAsks bTiming byte)
-  byWR4 : (byte : ℕ) → byte < 256 → isWR4 byte ≡ true → Awaited (wr4Asks byte)
-  byTiming : Awaited prescaler
-  byMaskCommand : Awaited readMask
+  by_wr0 : (byte : ℕ) → byte < 256 → is_wr0 byte ≡ true → Awaited (wr0_asks byte)
+  by_wr1 : (byte : ℕ) → byte < 256 → is_wr1 byte ≡ true → Awaited (timing_asks a_timing byte)
+  by_wr2 : (byte : ℕ) → byte < 256 → is_wr2 byte ≡ true → Awaited (timing_asks b_timing byte)
+  by_wr4 : (byte : ℕ) → byte < 256 → is_wr4 byte ≡ true → Awaited (wr4_asks byte)
+  by_timing : Awaited prescaler
+  by_mask_command : Awaited read_mask
   tail : (p : ℕ) → Awaited p → Awaited (rest p)
 
 -- what bytes lead to, one after the other, from nothing on
 pub data LedTo : ℕ → Type 0 where
-  fromNothing : LedTo nothing
-  by_byte : (byte p : ℕ) → byte < 256 → LedTo p → LedTo (pendingAfter byte p)
+  from_nothing : LedTo nothing
+  by_byte : (byte p : ℕ) → byte < 256 → LedTo p → LedTo (pending_after byte p)
 
 -- all numbers that can be pending
-abbrev pub pendingNumbers : List ℕ
-pendingNumbers =
+abbrev pub pending_numbers : List ℕ
+pending_numbers =
     nothing
-    ∷ aLow
-    ∷ aHigh
-    ∷ (aLow + aHigh)
-    ∷ lengthLow
-    ∷ (aLow + lengthLow)
-    ∷ (aHigh + lengthLow)
-    ∷ (aLow + aHigh + lengthLow)
-    ∷ lengthHigh
-    ∷ (aLow + lengthHigh)
-    ∷ (aHigh + lengthHigh)
-    ∷ (aLow + aHigh + lengthHigh)
-    ∷ (lengthLow + lengthHigh)
-    ∷ (aLow + lengthLow + lengthHigh)
-    ∷ (aHigh + lengthLow + lengthHigh)
-    ∷ (aLow + aHigh + lengthLow + lengthHigh)
-    ∷ aTiming
-    ∷ bTiming
+    ∷ a_low
+    ∷ a_high
+    ∷ (a_low + a_high)
+    ∷ length_low
+    ∷ (a_low + length_low)
+    ∷ (a_high + length_low)
+    ∷ (a_low + a_high + length_low)
+    ∷ length_high
+    ∷ (a_low + length_high)
+    ∷ (a_high + length_high)
+    ∷ (a_low + a_high + length_high)
+    ∷ (length_low + length_high)
+    ∷ (a_low + length_low + length_high)
+    ∷ (a_high + length_low + length_high)
+    ∷ (a_low + a_high + length_low + length_high)
+    ∷ a_timing
+    ∷ b_timing
     ∷ prescaler
-    ∷ bLow
-    ∷ bHigh
-    ∷ (bLow + bHigh)
-    ∷ readMask
+    ∷ b_low
+    ∷ b_high
+    ∷ (b_low + b_high)
+    ∷ read_mask
     ∷ []
 
 unfoldable pub among : ℕ → List ℕ → Bool
@@ -139,43 +139,43 @@ pub record LowestBit (m p x : ℕ) : Type 0 where
 
 -- a core with a number that is none of them
 abbrev pub Unlisted : Core → Type 0
-Unlisted c = among c.pending pendingNumbers ≡ false
+Unlisted c = among c.pending pending_numbers ≡ false
 
 pub record PendingExact : Type 1 where
   -- bits 0 to 9 in the order of document 01's table
   pub order :
-      (aLow ∷ aHigh ∷ lengthLow ∷ lengthHigh ∷ aTiming ∷ bTiming ∷ prescaler ∷ bLow ∷ bHigh ∷ readMask ∷ [])
+      (a_low ∷ a_high ∷ length_low ∷ length_high ∷ a_timing ∷ b_timing ∷ prescaler ∷ b_low ∷ b_high ∷ read_mask ∷ [])
       ≡ (1 ∷ 2 ∷ 4 ∷ 8 ∷ 16 ∷ 32 ∷ 64 ∷ 128 ∷ 256 ∷ 512 ∷ [])
-  pub valid : (p : ℕ) → Exactly (validPending p ≡ true) (Awaited p)
+  pub valid : (p : ℕ) → Exactly (valid_pending p ≡ true) (Awaited p)
   -- bytes lead to each of them and to no other
-  pub led : (p : ℕ) → Exactly (validPending p ≡ true) (LedTo p)
+  pub led : (p : ℕ) → Exactly (valid_pending p ≡ true) (LedTo p)
   -- the next one of any number is the lowest of the ten bits that is set; there is none exactly where none of them is, and of
   -- the valid numbers that is 0 alone
   pub lowest : (p : ℕ) → (next p ≡ nothing → ⊥) → LowestBit 10 p (next p)
   pub none : (p : ℕ) → Exactly (next p ≡ nothing) ((i : ℕ) → i < 10 → bit i p ≡ false)
-  pub empty : (p : ℕ) → validPending p ≡ true → next p ≡ nothing → p ≡ nothing
+  pub empty : (p : ℕ) → valid_pending p ≡ true → next p ≡ nothing → p ≡ nothing
   -- what a byte does to the rest of the core leaves them alone, and so do a read, a clock and another speed
-  pub alone : (byte : ℕ) (c : Core) → (carriedOut byte c).pending ≡ c.pending
-  pub aloneInRead : (c : Core) → (readByte c).core.pending ≡ c.pending
-  pub aloneInClock : (c : Core) → (clockOf c).next.pending ≡ c.pending
-  pub aloneInSpeed : (c : Core) (code : ℕ) → (atSpeed code c).pending ≡ c.pending
+  pub alone : (byte : ℕ) (c : Core) → (carried_out byte c).pending ≡ c.pending
+  pub alone_in_read : (c : Core) → (read_byte c).core.pending ≡ c.pending
+  pub alone_in_clock : (c : Core) → (clock_of c).next.pending ≡ c.pending
+  pub alone_in_speed : (c : Core) (code : ℕ) → (at_speed code c).pending ≡ c.pending
   -- they are these 23 and no other
-  pub listed : (p : ℕ) → Exactly (validPending p ≡ true) (among p pendingNumbers ≡ true)
-  pub count : length pendingNumbers ≡ 23
-  pub once : distinct pendingNumbers ≡ true
+  pub listed : (p : ℕ) → Exactly (valid_pending p ≡ true) (among p pending_numbers ≡ true)
+  pub count : length pending_numbers ≡ 23
+  pub once : distinct pending_numbers ≡ true
   -- a device with any other number is refused with 1 by every call
-  pub write : (c : Core) (k : Clocks) (port byte : ℕ) → Unlisted c → writeReply c k port byte ≡ record { answered = refused 1; core = c; clocks = k }
-  pub read : (c : Core) (k : Clocks) (port : ℕ) → Unlisted c → readReply c k port ≡ record { answered = refused 1; core = c; clocks = k }
-  pub speed : (c : Core) (k : Clocks) (code : ℕ) → Unlisted c → speedReply c k code ≡ record { answered = refused 1; core = c; clocks = k }
+  pub write : (c : Core) (k : Clocks) (port byte : ℕ) → Unlisted c → write_reply c k port byte ≡ record { answered = refused 1; core = c; clocks = k }
+  pub read : (c : Core) (k : Clocks) (port : ℕ) → Unlisted c → read_reply c k port ≡ record { answered = refused 1; core = c; clocks = k }
+  pub speed : (c : Core) (k : Clocks) (code : ℕ) → Unlisted c → speed_reply c k code ≡ record { answered = refused 1; core = c; clocks = k }
   pub granted : {M : Type 0} (σ : Store M) (s : System M) (n : ℕ) → Unlisted s.world.core → grant σ s n ≡ record { answered = refused 1; system = s }
 
 -- ---- blocks
 
 -- a block has as many bytes as its length, in Zilog mode one more, and is finished exactly where the counter has come to it
 pub record BlockExact (b : Block) : Type 0 where
-  pub zxn : b.zilog ≡ false → blockCount b ≡ b.length
-  pub zilog : b.zilog ≡ true → blockCount b ≡ b.length + 1
-  pub end : Exactly (finished b ≡ true) (blockCount b ≤ b.counter)
+  pub zxn : b.zilog ≡ false → block_count b ≡ b.length
+  pub zilog : b.zilog ≡ true → block_count b ≡ b.length + 1
+  pub end : Exactly (finished b ≡ true) (block_count b ≤ b.counter)
 
 -- ---- reading back
 
@@ -190,7 +190,7 @@ pub record ChosenRead (mask position : ℕ) : Type 0 where
   pub steps : ℕ
   pub few : steps < 7
   pub there : chosen mask position ≡ onward steps position
-  pub inMask : bit (chosen mask position) mask ≡ true
+  pub in_mask : bit (chosen mask position) mask ≡ true
   pub first : (i : ℕ) → i < steps → bit (onward i position) mask ≡ false
 
 abbrev pub ChosenExact : Type 0
@@ -198,10 +198,10 @@ ChosenExact = (mask position : ℕ) → mask ≤ 127 → (mask ≡ 0 → ⊥) �
 
 -- what is read are bytes, and a number is read low byte first
 pub record LowFirst (c : Core) : Type 0 where
-  pub bytes : (k : ℕ) → registerByte k c < 256
-  pub counter : registerByte 1 c + 256 * registerByte 2 c ≡ c.block.counter % 65536
-  pub a : registerByte 3 c + 256 * registerByte 4 c ≡ c.a.pointer % 65536
-  pub b : registerByte 5 c + 256 * registerByte 6 c ≡ c.b.pointer % 65536
+  pub bytes : (k : ℕ) → register_byte k c < 256
+  pub counter : register_byte 1 c + 256 * register_byte 2 c ≡ c.block.counter % 65536
+  pub a : register_byte 3 c + 256 * register_byte 4 c ≡ c.a.pointer % 65536
+  pub b : register_byte 5 c + 256 * register_byte 6 c ≡ c.b.pointer % 65536
 
 -- ---- the 24 bytes that select no register
 
@@ -227,4 +227,4 @@ pub record SelectionExact : Type 0 where
   pub wr0 : (byte : ℕ) → Exactly (selects byte ≡ 0) ((byte < 128) × (byte % 4 ≡ 0 → ⊥))
   pub wr4 : (byte : ℕ) → Exactly (selects byte ≡ 4) ((128 ≤ byte) × (byte % 4 ≡ 1))
   -- these change nothing but the compatibility mode, while no parameter is pending
-  pub idle : (port byte : ℕ) (c : Core) → selected byte ≡ 0 → isPending c.pending ≡ false → written port byte c ≡ inMode port c
+  pub idle : (port byte : ℕ) (c : Core) → selected byte ≡ 0 → is_pending c.pending ≡ false → written port byte c ≡ in_mode port c

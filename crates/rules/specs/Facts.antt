@@ -1,8 +1,8 @@
 -- Validity as facts, part by part, and the ranges that the types give anyway.
 -- Assumes nothing.
 use Rattle.std.specs.Prelude.{◌%◌, ◌≤◌, ◌<◌, ◌≡◌, Bool, true, false}
-use Rattle.rules.specs.Validity.{validPort, validReadback, validSlot, validProgress}
-use Rattle.rules.specs.Pending.{validPending}
+use Rattle.rules.specs.Validity.{valid_port, valid_readback, valid_slot, valid_progress}
+use Rattle.rules.specs.Pending.{valid_pending}
 use Rattle.rules.specs.declared.Port.{Port}
 use Rattle.rules.specs.declared.Readback.{Readback}
 use Rattle.rules.specs.declared.Slot.{Slot}
@@ -10,14 +10,14 @@ use Rattle.rules.specs.declared.Core.{Core}
 
 -- a valid core, part by part
 pub record ValidParts (c : Core) : Type 0 where
-  pub a : validPort c.a ≡ true
-  pub b : validPort c.b ≡ true
+  pub a : valid_port c.a ≡ true
+  pub b : valid_port c.b ≡ true
   pub counter : c.block.counter ≤ 65536
   pub speed : c.control.speed ≤ 3
-  pub readback : validReadback c.readback ≡ true
-  pub pending : validPending c.pending ≡ true
-  pub slot : validSlot c.enabled c.slot ≡ true
-  pub progress : validProgress c.enabled c.block c.slot ≡ true
+  pub readback : valid_readback c.readback ≡ true
+  pub pending : valid_pending c.pending ≡ true
+  pub slot : valid_slot c.enabled c.slot ≡ true
+  pub progress : valid_progress c.enabled c.block c.slot ≡ true
 
 -- a valid port's cycle
 pub record ValidCycle (p : Port) : Type 0 where
@@ -38,7 +38,7 @@ pub record Resting (s : Slot) : Type 0 where
 
 -- a slot's length is its bus time, or a multiple of 32 from 32 to 8,160 that is not below it
 pub data SlotLength (s : Slot) : Type 0 where
-  busTime : s.length ≡ s.bus → SlotLength s
+  bus_time : s.length ≡ s.bus → SlotLength s
   prescaled : 32 ≤ s.length → s.length ≤ 8160 → s.length % 32 ≡ 0 → s.bus ≤ s.length → SlotLength s
 
 -- a slot of which clocks have elapsed

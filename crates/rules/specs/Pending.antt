@@ -7,65 +7,65 @@ use Rattle.rules.specs.Bytes.{bit}
 use Rattle.rules.specs.Selection.{selects}
 
 -- the parameters, bits 0 to 9 in the order of document 01's table
-abbrev pub aLow : ℕ
-aLow = 1
+abbrev pub a_low : ℕ
+a_low = 1
 
-abbrev pub aHigh : ℕ
-aHigh = 2
+abbrev pub a_high : ℕ
+a_high = 2
 
-abbrev pub lengthLow : ℕ
-lengthLow = 4
+abbrev pub length_low : ℕ
+length_low = 4
 
-abbrev pub lengthHigh : ℕ
-lengthHigh = 8
+abbrev pub length_high : ℕ
+length_high = 8
 
-abbrev pub aTiming : ℕ
-aTiming = 16
+abbrev pub a_timing : ℕ
+a_timing = 16
 
-abbrev pub bTiming : ℕ
-bTiming = 32
+abbrev pub b_timing : ℕ
+b_timing = 32
 
 abbrev pub prescaler : ℕ
 prescaler = 64
 
-abbrev pub bLow : ℕ
-bLow = 128
+abbrev pub b_low : ℕ
+b_low = 128
 
-abbrev pub bHigh : ℕ
-bHigh = 256
+abbrev pub b_high : ℕ
+b_high = 256
 
-abbrev pub readMask : ℕ
-readMask = 512
+abbrev pub read_mask : ℕ
+read_mask = 512
 
 -- nothing is pending
 abbrev pub nothing : ℕ
 nothing = 0
 
 -- the bits from the lowest up, and the parameter of each
-abbrev pub lowestFirst : ℕ → List (Row ℕ)
-lowestFirst p =
-    bit 0 p ⇒ aLow
-    ∷ bit 1 p ⇒ aHigh
-    ∷ bit 2 p ⇒ lengthLow
-    ∷ bit 3 p ⇒ lengthHigh
-    ∷ bit 4 p ⇒ aTiming
-    ∷ bit 5 p ⇒ bTiming
+abbrev pub lowest_first : ℕ → List (Row ℕ)
+lowest_first p =
+    bit 0 p ⇒ a_low
+    ∷ bit 1 p ⇒ a_high
+    ∷ bit 2 p ⇒ length_low
+    ∷ bit 3 p ⇒ length_high
+    ∷ bit 4 p ⇒ a_timing
+    ∷ bit 5 p ⇒ b_timing
     ∷ bit 6 p ⇒ prescaler
-    ∷ bit 7 p ⇒ bLow
-    ∷ bit 8 p ⇒ bHigh
-    ∷ bit 9 p ⇒ readMask
+    ∷ bit 7 p ⇒ b_low
+    ∷ bit 8 p ⇒ b_high
+    ∷ bit 9 p ⇒ read_mask
     ∷ []
 
 -- the next one, the lowest bit that is set; 0 for none
 unfoldable pub next : ℕ → ℕ
-next p = first_of (lowestFirst p) nothing
+next p = first_of (lowest_first p) nothing
 
 -- a parameter, and not none
-abbrev pub isOne : ℕ → Bool
-isOne parameter = not (eqb parameter nothing)
+abbrev pub is_one : ℕ → Bool
+is_one parameter = not (eqb parameter nothing)
 
-abbrev pub isPending : ℕ → Bool
-isPending p = isOne (next p)
+abbrev pub is_pending : ℕ → Bool
+is_pending p = is_one (next p)
 
 -- those after the next one
 abbrev pub rest : ℕ → ℕ
@@ -76,49 +76,49 @@ unfoldable pub ask : Bool → ℕ → ℕ → ℕ
 ask t parameter p = pick t (parameter + p) p
 
 -- the parameters that each register's byte asks for
-abbrev pub wr0Asks : ℕ → ℕ
-wr0Asks byte = ask (bit 3 byte) aLow (ask (bit 4 byte) aHigh (ask (bit 5 byte) lengthLow (ask (bit 6 byte) lengthHigh nothing)))
+abbrev pub wr0_asks : ℕ → ℕ
+wr0_asks byte = ask (bit 3 byte) a_low (ask (bit 4 byte) a_high (ask (bit 5 byte) length_low (ask (bit 6 byte) length_high nothing)))
 
 -- WR1 or WR2, for the timing of its port
-abbrev pub timingAsks : ℕ → ℕ → ℕ
-timingAsks timing byte = ask (bit 6 byte) timing nothing
+abbrev pub timing_asks : ℕ → ℕ → ℕ
+timing_asks timing byte = ask (bit 6 byte) timing nothing
 
-abbrev pub wr4Asks : ℕ → ℕ
-wr4Asks byte = ask (bit 2 byte) bLow (ask (bit 3 byte) bHigh nothing)
+abbrev pub wr4_asks : ℕ → ℕ
+wr4_asks byte = ask (bit 2 byte) b_low (ask (bit 3 byte) b_high nothing)
 
 -- a byte that selects a register: those that it asks for, after BB the read mask; WR3, WR5, the other commands and the bytes
 -- that select none leave what is pending as it is
 unfoldable pub asked : ℕ → ℕ → ℕ
 asked byte p =
     first_of
-    (eqb (selects byte) 0 ⇒ wr0Asks byte
-    ∷ eqb (selects byte) 1 ⇒ timingAsks aTiming byte
-    ∷ eqb (selects byte) 2 ⇒ timingAsks bTiming byte
-    ∷ eqb (selects byte) 4 ⇒ wr4Asks byte
-    ∷ eqb byte 0xBB ⇒ readMask
+    (eqb (selects byte) 0 ⇒ wr0_asks byte
+    ∷ eqb (selects byte) 1 ⇒ timing_asks a_timing byte
+    ∷ eqb (selects byte) 2 ⇒ timing_asks b_timing byte
+    ∷ eqb (selects byte) 4 ⇒ wr4_asks byte
+    ∷ eqb byte 0xBB ⇒ read_mask
     ∷ [])
     p
 
 -- a byte that is this parameter uses it up, and B timing with bit 5 set asks for the prescaler; in a valid number B timing is
 -- alone
-unfoldable pub usedUp : ℕ → ℕ → ℕ → ℕ
-usedUp parameter byte p = pick (every (eqb parameter bTiming ∷ bit 5 byte ∷ [])) prescaler (p - parameter)
+unfoldable pub used_up : ℕ → ℕ → ℕ → ℕ
+used_up parameter byte p = pick (every (eqb parameter b_timing ∷ bit 5 byte ∷ [])) prescaler (p - parameter)
 
 -- what is pending after a byte, by what is next
-unfoldable pub pendingAfterAs : ℕ → ℕ → ℕ → ℕ
-pendingAfterAs next byte p = pick (isOne next) (usedUp next byte p) (asked byte p)
+unfoldable pub pending_after_as : ℕ → ℕ → ℕ → ℕ
+pending_after_as next byte p = pick (is_one next) (used_up next byte p) (asked byte p)
 
-abbrev pub pendingAfter : ℕ → ℕ → ℕ
-pendingAfter byte p = pendingAfterAs (next p) byte p
+abbrev pub pending_after : ℕ → ℕ → ℕ
+pending_after byte p = pending_after_as (next p) byte p
 
 -- any of WR0's four, or A timing alone, B timing alone, the prescaler alone, any of WR4's two, or the read mask alone
-unfoldable pub validPending : ℕ → Bool
-validPending p =
+unfoldable pub valid_pending : ℕ → Bool
+valid_pending p =
     any
-    (ltb p aTiming
-    ∷ eqb p aTiming
-    ∷ eqb p bTiming
+    (ltb p a_timing
+    ∷ eqb p a_timing
+    ∷ eqb p b_timing
     ∷ eqb p prescaler
-    ∷ every (eqb (p % bLow) 0 ∷ ltb p readMask ∷ [])
-    ∷ eqb p readMask
+    ∷ every (eqb (p % b_low) 0 ∷ ltb p read_mask ∷ [])
+    ∷ eqb p read_mask
     ∷ [])

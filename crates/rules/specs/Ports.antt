@@ -2,8 +2,8 @@
 -- Assumes nothing.
 use Rattle.std.specs.Prelude.{ℕ, zero, suc, ◌+◌, ◌/◌, ◌%◌, eqb}
 use Rattle.rules.specs.Choice.{pick}
-use Rattle.rules.specs.Bytes.{bit, withLow, withHigh}
-use Rattle.rules.specs.Parts.{withAddress, withPointer, withCycle}
+use Rattle.rules.specs.Bytes.{bit, with_low, with_high}
+use Rattle.rules.specs.Parts.{with_address, with_pointer, with_cycle}
 use Rattle.rules.specs.declared.Port.{Port}
 
 -- WR1 and WR2: bit 3 set is I/O; bits 5-4 are the pointer's step. The cycle stays until a timing byte comes.
@@ -13,26 +13,26 @@ configured byte p =
 
 -- bits 1-0 of a timing byte: 00 is 4 clocks at 28 MHz, 01 is 3, 10 is 2; 11 is 4 (ours). The other bits say nothing of the
 -- cycle.
-unfoldable pub cycleOf : ℕ → ℕ
-cycleOf byte = pick (eqb (byte % 4) 1) 3 (pick (eqb (byte % 4) 2) 2 4)
+unfoldable pub cycle_of : ℕ → ℕ
+cycle_of byte = pick (eqb (byte % 4) 1) 3 (pick (eqb (byte % 4) 2) 2 4)
 
 abbrev pub timed : ℕ → Port → Port
-timed byte p = withCycle (cycleOf byte) p
+timed byte p = with_cycle (cycle_of byte) p
 
 -- the low or the high byte of the starting address is written
-abbrev pub addressedLow : ℕ → Port → Port
-addressedLow byte p = withAddress (withLow byte p.address) p
+abbrev pub addressed_low : ℕ → Port → Port
+addressed_low byte p = with_address (with_low byte p.address) p
 
-abbrev pub addressedHigh : ℕ → Port → Port
-addressedHigh byte p = withAddress (withHigh byte p.address) p
+abbrev pub addressed_high : ℕ → Port → Port
+addressed_high byte p = with_address (with_high byte p.address) p
 
 -- the cycle length after a reset: 4 clocks at 28 MHz
-abbrev pub resetTiming : Port → Port
-resetTiming p = withCycle 4 p
+abbrev pub reset_timing : Port → Port
+reset_timing p = with_cycle 4 p
 
 -- the pointer takes the starting address
 abbrev pub loaded : Port → Port
-loaded p = withPointer p.address p
+loaded p = with_pointer p.address p
 
 -- the address after a byte: one less, one more or the same, modulo 65,536
 unfoldable pub stepped : ℕ → ℕ → ℕ
@@ -40,16 +40,16 @@ stepped step pointer =
     pick (eqb step 0) ((pointer + 65535) % 65536) (pick (eqb step 1) ((pointer + 1) % 65536) pointer)
 
 abbrev pub advanced : Port → Port
-advanced p = withPointer (stepped p.step p.pointer) p
+advanced p = with_pointer (stepped p.step p.pointer) p
 
 -- what a step code adds to an address modulo 65,536
 unfoldable pub stride : ℕ → ℕ
 stride step = pick (eqb step 0) 65535 (pick (eqb step 1) 1 0)
 
 -- the address after k bytes
-unfoldable pub steppedBy : ℕ → ℕ → ℕ → ℕ
-steppedBy zero step pointer = pointer
-steppedBy (suc k) step pointer = stepped step (steppedBy k step pointer)
+unfoldable pub stepped_by : ℕ → ℕ → ℕ → ℕ
+stepped_by zero step pointer = pointer
+stepped_by (suc k) step pointer = stepped step (stepped_by k step pointer)
 
-abbrev pub advancedBy : ℕ → Port → Port
-advancedBy k p = withPointer (steppedBy k p.step p.pointer) p
+abbrev pub advanced_by : ℕ → Port → Port
+advanced_by k p = with_pointer (stepped_by k p.step p.pointer) p

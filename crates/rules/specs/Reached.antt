@@ -7,15 +7,15 @@ use Rattle.rules.specs.Validity.{valid, total}
 use Rattle.rules.specs.Buffers.{Store, flat, Buffers}
 use Rattle.rules.specs.Keeping.{ValidDevice}
 use Rattle.rules.specs.Calls.{Answered}
-use Rattle.rules.specs.Entries.{Outside, Poke, flatOutside, Entry, portWrite, portRead, speedCall, clockGrant, otherGrant, outsideChange, bytesWritten, Run, run, systemAtPowerOn}
-use Rattle.rules.specs.History.{Event, clockNoted, counterZeroed, History, history, pastAtPowerOn}
-use Rattle.rules.specs.Accounts.{heldBefore}
+use Rattle.rules.specs.Entries.{Outside, Poke, flat_outside, Entry, port_write, port_read, speed_call, clock_grant, other_grant, outside_change, bytes_written, Run, run, system_at_power_on}
+use Rattle.rules.specs.History.{Event, clock_noted, counter_zeroed, History, history, past_at_power_on}
+use Rattle.rules.specs.Accounts.{held_before}
 
 -- what the counter held, each time that it was put to zero, is at most 65,536
 unfoldable pub CountersNoted : List Event → Type 0
 CountersNoted [] = Unit {0}
-CountersNoted (clockNoted n ∷ es) = (heldBefore n.zeroed ≤ 65536) × CountersNoted es
-CountersNoted (counterZeroed held ∷ es) = (held ≤ 65536) × CountersNoted es
+CountersNoted (clock_noted n ∷ es) = (held_before n.zeroed ≤ 65536) × CountersNoted es
+CountersNoted (counter_zeroed held ∷ es) = (held ≤ 65536) × CountersNoted es
 
 -- of a list's run r and its history h
 pub record Reached {M : Type 0} (r : Run M) (h : History M) : Type 0 where
@@ -29,8 +29,8 @@ pub record Reached {M : Type 0} (r : Run M) (h : History M) : Type 0 where
 abbrev pub EveryReached : Type 1
 EveryReached =
     (M C : Type 0) (σ : Store M) (ω : Outside M C) (m : M) (l : List ℕ) (es : List (Entry σ C))
-    → AreBytes (bytesWritten es)
-    → Reached (run σ ω es (systemAtPowerOn m l)) (history σ ω es (pastAtPowerOn m l))
+    → AreBytes (bytes_written es)
+    → Reached (run σ ω es (system_at_power_on m l)) (history σ ω es (past_at_power_on m l))
 
 -- ---- the numbers of the answers, with the flat memory
 
@@ -41,12 +41,12 @@ NoneIs n (a ∷ as') = (a.number ≡ n → ⊥) × NoneIs n as'
 
 -- a grant that lends other buffers, of which this holds
 abbrev pub Lends : (Buffers (List ℕ) → Type 0) → Entry flat (List Poke) → Type 0
-Lends P (portWrite port byte) = ⊥
-Lends P (portRead port) = ⊥
-Lends P (speedCall code) = ⊥
-Lends P (clockGrant n) = ⊥
-Lends P (otherGrant n b wrong) = P b
-Lends P (outsideChange x) = ⊥
+Lends P (port_write port byte) = ⊥
+Lends P (port_read port) = ⊥
+Lends P (speed_call code) = ⊥
+Lends P (clock_grant n) = ⊥
+Lends P (other_grant n b wrong) = P b
+Lends P (outside_change x) = ⊥
 
 -- a memory, and latches, of a wrong length
 abbrev pub WrongMemory : Buffers (List ℕ) → Type 0
@@ -63,12 +63,12 @@ OwnServe (e ∷ es) (a ∷ as') = (a.number ≡ 4 → Lends WrongMemory e) × (a
 
 -- a speed call of a code above 3
 abbrev pub AsksAbove : Entry flat (List Poke) → Type 0
-AsksAbove (portWrite port byte) = ⊥
-AsksAbove (portRead port) = ⊥
-AsksAbove (speedCall code) = 3 < code
-AsksAbove (clockGrant n) = ⊥
-AsksAbove (otherGrant n b wrong) = ⊥
-AsksAbove (outsideChange x) = ⊥
+AsksAbove (port_write port byte) = ⊥
+AsksAbove (port_read port) = ⊥
+AsksAbove (speed_call code) = 3 < code
+AsksAbove (clock_grant n) = ⊥
+AsksAbove (other_grant n b wrong) = ⊥
+AsksAbove (outside_change x) = ⊥
 
 -- 7 is answered only to such a call
 unfoldable pub OnlyAbove : List (Entry flat (List Poke)) → List Answered → Type 0
@@ -80,7 +80,7 @@ OnlyAbove (e ∷ es) (a ∷ as') = (a.number ≡ 7 → AsksAbove e) × OnlyAbove
 abbrev pub AnswersReached : Type 0
 AnswersReached =
     (m l : List ℕ) (es : List (Entry flat (List Poke)))
-    → AreBytes (bytesWritten es)
-    → NoneIs 1 (run flat flatOutside es (systemAtPowerOn m l)).answers
-    × OnlyAbove es (run flat flatOutside es (systemAtPowerOn m l)).answers
-    × (length m ≡ 65536 → length l ≡ 65536 → OwnServe es (run flat flatOutside es (systemAtPowerOn m l)).answers)
+    → AreBytes (bytes_written es)
+    → NoneIs 1 (run flat flat_outside es (system_at_power_on m l)).answers
+    × OnlyAbove es (run flat flat_outside es (system_at_power_on m l)).answers
+    × (length m ≡ 65536 → length l ≡ 65536 → OwnServe es (run flat flat_outside es (system_at_power_on m l)).answers)

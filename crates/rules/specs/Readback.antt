@@ -2,27 +2,27 @@
 -- Assumes nothing.
 use Rattle.std.specs.Prelude.{ℕ, zero, suc, ◌+◌, false, [], ◌∷◌, ltb, eqb}
 use Rattle.rules.specs.Choice.{pick, ◌⇒◌, first_of}
-use Rattle.rules.specs.Bytes.{bit, low_byte, highByte}
-use Rattle.rules.specs.Parts.{withPosition, withWaiting, withReadback}
+use Rattle.rules.specs.Bytes.{bit, low_byte, high_byte}
+use Rattle.rules.specs.Parts.{with_position, with_waiting, with_readback}
 use Rattle.rules.specs.declared.Status.{Status}
 use Rattle.rules.specs.declared.Core.{Core}
 
 -- the status byte, 00E1101T
-unfoldable pub statusByte : Status → ℕ
-statusByte s = 0x1A + pick s.e 32 0 + pick s.t 1 0
+unfoldable pub status_byte : Status → ℕ
+status_byte s = 0x1A + pick s.e 32 0 + pick s.t 1 0
 
 -- register k: low comes before high, and the counter is read modulo 65,536
-unfoldable pub registerByte : ℕ → Core → ℕ
-registerByte k c =
+unfoldable pub register_byte : ℕ → Core → ℕ
+register_byte k c =
     first_of
-    (eqb k 0 ⇒ statusByte c.status
+    (eqb k 0 ⇒ status_byte c.status
     ∷ eqb k 1 ⇒ low_byte c.block.counter
-    ∷ eqb k 2 ⇒ highByte c.block.counter
+    ∷ eqb k 2 ⇒ high_byte c.block.counter
     ∷ eqb k 3 ⇒ low_byte c.a.pointer
-    ∷ eqb k 4 ⇒ highByte c.a.pointer
+    ∷ eqb k 4 ⇒ high_byte c.a.pointer
     ∷ eqb k 5 ⇒ low_byte c.b.pointer
     ∷ [])
-    (highByte c.b.pointer)
+    (high_byte c.b.pointer)
 
 -- the register after k, going round
 unfoldable pub after : ℕ → ℕ
@@ -46,14 +46,14 @@ abbrev pub gives : ℕ → Core → Byte
 gives b c = record { byte = b; core = c }
 
 -- register k is read, and the position moves to the one after it
-abbrev pub readRegister : ℕ → Core → Byte
-readRegister k c = gives (registerByte k c) (withReadback (withPosition (after k) c.readback) c)
+abbrev pub read_register : ℕ → Core → Byte
+read_register k c = gives (register_byte k c) (with_readback (with_position (after k) c.readback) c)
 
 -- a waiting status read comes first and leaves the position; an empty mask gives the status and moves nothing (ours)
-unfoldable pub readByte : Core → Byte
-readByte c =
+unfoldable pub read_byte : Core → Byte
+read_byte c =
     first_of
-    (c.readback.waiting ⇒ gives (statusByte c.status) (withReadback (withWaiting false c.readback) c)
-    ∷ eqb c.readback.mask 0 ⇒ gives (statusByte c.status) c
+    (c.readback.waiting ⇒ gives (status_byte c.status) (with_readback (with_waiting false c.readback) c)
+    ∷ eqb c.readback.mask 0 ⇒ gives (status_byte c.status) c
     ∷ [])
-    (readRegister (chosen c.readback.mask c.readback.position) c)
+    (read_register (chosen c.readback.mask c.readback.position) c)

@@ -3,31 +3,31 @@
 -- Assumes nothing.
 use Rattle.std.specs.Prelude.{ℕ, zero, suc, ◌+◌, ◌≤◌, ◌<◌, ◌≡◌, Bool, true, false, [], ◌∷◌, eqb}
 use Rattle.rules.specs.Choice.{pick, every, any}
-use Rattle.rules.specs.Clock.{Kind, busClock, heldClock, cpuClock, countedBy, clockOf}
+use Rattle.rules.specs.Clock.{Kind, bus_clock, held_clock, cpu_clock, counted_by, clock_of}
 use Rattle.rules.specs.Buffers.{Store, source, destination}
-use Rattle.rules.specs.World.{System, system, buffersAfter, clocked}
+use Rattle.rules.specs.World.{System, system, buffers_after, clocked}
 use Rattle.rules.specs.declared.Core.{Core}
 use Rattle.rules.specs.declared.Span.{Span}
 
 -- a kind's number in code
-abbrev pub kindCode : Kind → ℕ
-kindCode busClock = 0
-kindCode heldClock = 1
-kindCode cpuClock = 2
+abbrev pub kind_code : Kind → ℕ
+kind_code bus_clock = 0
+kind_code held_clock = 1
+kind_code cpu_clock = 2
 
 -- the kind of a number in code
 unfoldable pub kind_of : ℕ → Kind
-kind_of n = pick (eqb n (kindCode busClock)) busClock (pick (eqb n (kindCode heldClock)) heldClock cpuClock)
+kind_of n = pick (eqb n (kind_code bus_clock)) bus_clock (pick (eqb n (kind_code held_clock)) held_clock cpu_clock)
 
 -- n clocks of the core alone
 unfoldable pub ticks : ℕ → Core → Core
 ticks zero c = c
-ticks (suc n) c = (clockOf (ticks n c)).next
+ticks (suc n) c = (clock_of (ticks n c)).next
 
 -- n clocks from c on, after which the core is next: of one kind, with the places of c
 abbrev pub span : Kind → ℕ → Bool → Core → Core → Span
 span kind n moves c next =
-    record { kind = kindCode kind; clocks = n; moves = moves; from = source c; to = destination c; next = next }
+    record { kind = kind_code kind; clocks = n; moves = moves; from = source c; to = destination c; next = next }
 
 -- a span of a core within a budget: its clocks are of one kind, and one at least if there is a budget; none but the last
 -- moves a byte; its places are the source and the destination of the last, whether or not it does; next is the core after
@@ -35,23 +35,23 @@ span kind n moves c next =
 pub record IsSpan (c : Core) (budget : ℕ) (x : Span) : Type 0 where
   pub within : x.clocks ≤ budget
   pub some : 0 < budget → 0 < x.clocks
-  pub kinds : (i : ℕ) → i < x.clocks → kindCode (clockOf (ticks i c)).kind ≡ x.kind
-  pub quiet : (i : ℕ) → i + 1 < x.clocks → (clockOf (ticks i c)).moves ≡ false
-  pub last : (i : ℕ) → i + 1 ≡ x.clocks → (clockOf (ticks i c)).moves ≡ x.moves
+  pub kinds : (i : ℕ) → i < x.clocks → kind_code (clock_of (ticks i c)).kind ≡ x.kind
+  pub quiet : (i : ℕ) → i + 1 < x.clocks → (clock_of (ticks i c)).moves ≡ false
+  pub last : (i : ℕ) → i + 1 ≡ x.clocks → (clock_of (ticks i c)).moves ≡ x.moves
   pub source : (i : ℕ) → i + 1 ≡ x.clocks → source (ticks i c) ≡ x.from
   pub destination : (i : ℕ) → i + 1 ≡ x.clocks → destination (ticks i c) ≡ x.to
   pub none : x.clocks ≡ 0 → x.moves ≡ false
   pub core : ticks x.clocks c ≡ x.next
 
 -- the next clock ends its slot: of an enabled device it leaves no clock of a slot elapsed
-abbrev pub endsSlot : Core → Bool
-endsSlot c = every (c.enabled ∷ eqb (clockOf c).next.slot.elapsed 0 ∷ [])
+abbrev pub ends_slot : Core → Bool
+ends_slot c = every (c.enabled ∷ eqb (clock_of c).next.slot.elapsed 0 ∷ [])
 
 -- of a span within a budget, that it is the longest within one slot: no clock but its last ends the slot; where it is
 -- shorter than the budget, its last clock moves a byte or ends the slot; of a disabled device it is the whole budget
 pub record IsLongest (c : Core) (budget : ℕ) (x : Span) : Type 0 where
-  pub inside : (i : ℕ) → i + 1 < x.clocks → endsSlot (ticks i c) ≡ false
-  pub reached : (i : ℕ) → i + 1 ≡ x.clocks → x.clocks < budget → any (x.moves ∷ endsSlot (ticks i c) ∷ []) ≡ true
+  pub inside : (i : ℕ) → i + 1 < x.clocks → ends_slot (ticks i c) ≡ false
+  pub reached : (i : ℕ) → i + 1 ≡ x.clocks → x.clocks < budget → any (x.moves ∷ ends_slot (ticks i c) ∷ []) ≡ true
   pub idle : c.enabled ≡ false → x.clocks ≡ budget
 
 -- the longest span within one slot
@@ -59,17 +59,17 @@ abbrev pub IsLongestSpan : Core → ℕ → Span → Type 0
 IsLongestSpan c budget x = IsSpan c budget x × IsLongest c budget x
 
 -- the system after a span: its core, the byte moved if one moves, the clocks counted
-abbrev pub spanPassed : {M : Type 0} → Store M → Span → System M → System M
-spanPassed σ x s =
+abbrev pub span_passed : {M : Type 0} → Store M → Span → System M → System M
+span_passed σ x s =
     system x.next
-    (buffersAfter σ x.moves x.from x.to s.world.buffers)
-    (countedBy (kind_of x.kind) x.clocks s.clocks)
+    (buffers_after σ x.moves x.from x.to s.world.buffers)
+    (counted_by (kind_of x.kind) x.clocks s.clocks)
 
 -- a span is as many single clocks, over any memory
 pub record SpansAreClocks {M : Type 0} (σ : Store M) : Type 0 where
   pub spans :
       (s : System M) (budget : ℕ) (x : Span)
-      → IsSpan s.world.core budget x → clocked σ x.clocks s ≡ spanPassed σ x s
+      → IsSpan s.world.core budget x → clocked σ x.clocks s ≡ span_passed σ x s
 
 -- two longest spans of a core within the same budget have the same clocks, the same core behind them, and both move a byte
 -- or both do not; where there are clocks, they have the same kind and places

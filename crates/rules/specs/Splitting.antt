@@ -6,8 +6,8 @@ use Rattle.rules.specs.Facts.{InRange}
 use Rattle.rules.specs.Buffers.{Store}
 use Rattle.rules.specs.World.{System}
 use Rattle.rules.specs.Calls.{Answered, grant}
-use Rattle.rules.specs.Entries.{Outside, Entry, clockGrant, bytesWritten, Run, run, systemAtPowerOn}
-use Rattle.rules.specs.History.{Past, history, pastAtPowerOn}
+use Rattle.rules.specs.Entries.{Outside, Entry, clock_grant, bytes_written, Run, run, system_at_power_on}
+use Rattle.rules.specs.History.{Past, history, past_at_power_on}
 
 unfoldable pub sum_of : List ℕ → ℕ
 sum_of [] = 0
@@ -34,19 +34,19 @@ module _ {M : Type 0} (σ : Store M) where
 -- grants of the list's own buffers, and the answers to them where all are accepted
 unfoldable pub grants : {M C : Type 0} {σ : Store M} → List ℕ → List (Entry σ C)
 grants [] = []
-grants (n ∷ ns) = clockGrant n ∷ grants ns
+grants (n ∷ ns) = clock_grant n ∷ grants ns
 
-unfoldable pub acceptedAnswers : List ℕ → List Answered
-acceptedAnswers [] = []
-acceptedAnswers (n ∷ ns) = record { number = 0; byte = 0; warning = 0 } ∷ acceptedAnswers ns
+unfoldable pub accepted_answers : List ℕ → List Answered
+accepted_answers [] = []
+accepted_answers (n ∷ ns) = record { number = 0; byte = 0; warning = 0 } ∷ accepted_answers ns
 
 module _ {M C : Type 0} (σ : Store M) (ω : Outside M C) (m : M) (l : List ℕ) where
   -- from power-on: the run of a list in which grants stand between other entries, and what its history comes to
-  abbrev pub runWith : List (Entry σ C) → List ℕ → List (Entry σ C) → Run M
-  runWith before ns after = run σ ω (before ++ (grants ns ++ after)) (systemAtPowerOn m l)
+  abbrev pub run_with : List (Entry σ C) → List ℕ → List (Entry σ C) → Run M
+  run_with before ns after = run σ ω (before ++ (grants ns ++ after)) (system_at_power_on m l)
 
-  abbrev pub pastWith : List (Entry σ C) → List ℕ → List (Entry σ C) → Past M
-  pastWith before ns after = (history σ ω (before ++ (grants ns ++ after)) (pastAtPowerOn m l)).past
+  abbrev pub past_with : List (Entry σ C) → List ℕ → List (Entry σ C) → Past M
+  past_with before ns after = (history σ ω (before ++ (grants ns ++ after)) (past_at_power_on m l)).past
 
   -- a grant of n clocks and its parts, each between the same entries: the grant is accepted, and so is each part; the
   -- entries before and after are answered alike; both lists end in the same system and with the same events noted
@@ -54,16 +54,16 @@ module _ {M C : Type 0} (σ : Store M) (ω : Outside M C) (m : M) (l : List ℕ)
     pub first : List Answered
     pub later : List Answered
     pub each : length first ≡ length before
-    pub whole : (runWith before (n ∷ []) after).answers ≡ first ++ (acceptedAnswers (n ∷ []) ++ later)
-    pub parts : (runWith before ns after).answers ≡ first ++ (acceptedAnswers ns ++ later)
-    pub system : (runWith before ns after).system ≡ (runWith before (n ∷ []) after).system
-    pub past : pastWith before ns after ≡ pastWith before (n ∷ []) after
+    pub whole : (run_with before (n ∷ []) after).answers ≡ first ++ (accepted_answers (n ∷ []) ++ later)
+    pub parts : (run_with before ns after).answers ≡ first ++ (accepted_answers ns ++ later)
+    pub system : (run_with before ns after).system ≡ (run_with before (n ∷ []) after).system
+    pub past : past_with before ns after ≡ past_with before (n ∷ []) after
 
 -- so it is within every list, where a grant is accepted
 abbrev pub SplitsWithin : Type 1
 SplitsWithin =
     (M C : Type 0) (σ : Store M) (ω : Outside M C) (m : M) (l : List ℕ) (before after : List (Entry σ C)) (n : ℕ) (ns : List ℕ)
-    → AreBytes (bytesWritten before)
-    → (grant σ (run σ ω before (systemAtPowerOn m l)).system n).answered.number ≡ 0
+    → AreBytes (bytes_written before)
+    → (grant σ (run σ ω before (system_at_power_on m l)).system n).answered.number ≡ 0
     → sum_of ns ≡ n
     → SplitWithin σ ω m l before n ns after

@@ -3,9 +3,9 @@
 -- At28 another validity.
 -- Assumes nothing.
 use Rattle.std.specs.Prelude.{ℕ, Bool}
-use Rattle.rules.specs.Parts.{withPending}
-use Rattle.rules.specs.Pending.{next, pendingAfter}
-use Rattle.rules.specs.Validity.{validIf, validCore}
+use Rattle.rules.specs.Parts.{with_pending}
+use Rattle.rules.specs.Pending.{next, pending_after}
+use Rattle.rules.specs.Validity.{valid_if, valid_core}
 use Rattle.rules.specs.declared.Core.{Core}
 
 pub record Steering (D : Type 0) : Type 0 where
@@ -20,20 +20,20 @@ pub record Steering (D : Type 0) : Type 0 where
   pub valid : D → Bool
 
 -- the number in the core, by which cores are valid
-abbrev pub bitsBy : (Core → Bool) → Steering Core
-bitsBy ν =
+abbrev pub bits_by : (Core → Bool) → Steering Core
+bits_by ν =
     record {
       core = λ c. c;
       with = λ c d. c;
       next = λ d. next d.pending;
-      after = λ byte c d. withPending (pendingAfter byte d.pending) c;
+      after = λ byte c d. with_pending (pending_after byte d.pending) c;
       valid = ν;
     }
 
 -- the rules' own
 abbrev pub bits : Steering Core
-bits = bitsBy validCore
+bits = bits_by valid_core
 
 -- with a sum of clock counts
-abbrev pub validOver : {D : Type 0} → Steering D → D → ℕ → Bool
-validOver δ d sum = validIf (δ.valid d) sum
+abbrev pub valid_over : {D : Type 0} → Steering D → D → ℕ → Bool
+valid_over δ d sum = valid_if (δ.valid d) sum

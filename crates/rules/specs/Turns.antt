@@ -3,11 +3,11 @@
 use Rattle.std.specs.Prelude.{ℕ, ◌+◌, ◌*◌, ◌-◌, ◌≤◌, ◌<◌, ◌≡◌}
 use Rattle.rules.specs.Validity.{total, most64}
 use Rattle.rules.specs.Facts.{Kept}
-use Rattle.rules.specs.Slots.{newSlot}
+use Rattle.rules.specs.Slots.{new_slot}
 use Rattle.rules.specs.Buffers.{Store}
 use Rattle.rules.specs.World.{System, clocked}
-use Rattle.rules.specs.Spans.{IsSpan, spanPassed}
-use Rattle.rules.specs.WholeSlots.{slotsWithin, slotsPassed}
+use Rattle.rules.specs.Spans.{IsSpan, span_passed}
+use Rattle.rules.specs.WholeSlots.{slots_within, slots_passed}
 use Rattle.rules.specs.declared.Clocks.{Clocks}
 use Rattle.rules.specs.declared.Core.{Core}
 use Rattle.rules.specs.declared.Span.{Span}
@@ -29,8 +29,8 @@ module _ {M : Type 0} (σ : Store M) where
     pub span :
         (s : System M) (left : ℕ) (x : Span)
         → Ready s.world.core s.clocks left → IsSpan s.world.core left x
-        → Passed s (spanPassed σ x s) left (left - x.clocks)
+        → Passed s (span_passed σ x s) left (left - x.clocks)
     pub slots :
         (s : System M) (left k : ℕ)
-        → Ready s.world.core s.clocks left → k ≡ slotsWithin s.world.core left → 0 < k
-        → Passed s (slotsPassed σ k s) left (left - k * (newSlot s.world.core).length)
+        → Ready s.world.core s.clocks left → k ≡ slots_within s.world.core left → 0 < k
+        → Passed s (slots_passed σ k s) left (left - k * (new_slot s.world.core).length)

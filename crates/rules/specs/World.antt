@@ -3,8 +3,8 @@
 use Rattle.std.specs.Prelude.{ℕ, zero, suc, Bool}
 use Rattle.std.proofs.Math.Option.{Option, none, some}
 use Rattle.rules.specs.Choice.{pick}
-use Rattle.rules.specs.Clock.{Kind, Clock, clockOf, counted}
-use Rattle.rules.specs.Buffers.{Store, Buffers, source, destination, byteAt, transfer}
+use Rattle.rules.specs.Clock.{Kind, Clock, clock_of, counted}
+use Rattle.rules.specs.Buffers.{Store, Buffers, source, destination, byte_at, transfer}
 use Rattle.rules.specs.declared.Place.{Place}
 use Rattle.rules.specs.declared.Clocks.{Clocks}
 use Rattle.rules.specs.declared.Core.{Core}
@@ -45,50 +45,50 @@ pub record Note : Type 0 where
 
 module _ {M : Type 0} (σ : Store M) where
   -- the buffers after one clock: where a byte moves, it is read at one place and written at the other
-  unfoldable pub buffersAfter : Bool → Place → Place → Buffers M → Buffers M
-  buffersAfter moves from to b = pick moves (transfer σ from to b) b
+  unfoldable pub buffers_after : Bool → Place → Place → Buffers M → Buffers M
+  buffers_after moves from to b = pick moves (transfer σ from to b) b
 
 -- what follows from a clock κ of the core, the rules' own or another
 module _ {M : Type 0} (κ : Core → Clock) (σ : Store M) where
   -- one clock
-  abbrev pub stepBy : World M → World M
-  stepBy w =
+  abbrev pub step_by : World M → World M
+  step_by w =
       record {
         core = (κ w.core).next;
-        buffers = buffersAfter σ (κ w.core).moves (source w.core) (destination w.core) w.buffers;
+        buffers = buffers_after σ (κ w.core).moves (source w.core) (destination w.core) w.buffers;
       }
 
   -- the note of one clock
-  abbrev pub noteBy : World M → Note
-  noteBy w =
+  abbrev pub note_by : World M → Note
+  note_by w =
       record {
         kind = (κ w.core).kind;
         move =
             pick (κ w.core).moves
-            (some (record { from = source w.core; to = destination w.core; byte = byteAt σ (source w.core) w.buffers }))
+            (some (record { from = source w.core; to = destination w.core; byte = byte_at σ (source w.core) w.buffers }))
             none;
         zeroed = (κ w.core).zeroed;
       }
 
   -- one clock, counted
-  abbrev pub stepCountedBy : System M → System M
-  stepCountedBy s = record { world = stepBy s.world; clocks = counted (κ s.world.core).kind s.clocks }
+  abbrev pub step_counted_by : System M → System M
+  step_counted_by s = record { world = step_by s.world; clocks = counted (κ s.world.core).kind s.clocks }
 
   -- n clocks
-  unfoldable pub clockedBy : ℕ → System M → System M
-  clockedBy zero s = s
-  clockedBy (suc n) s = stepCountedBy (clockedBy n s)
+  unfoldable pub clocked_by : ℕ → System M → System M
+  clocked_by zero s = s
+  clocked_by (suc n) s = step_counted_by (clocked_by n s)
 
 -- by the rules' clock
 module _ {M : Type 0} (σ : Store M) where
   abbrev pub step : World M → World M
-  step w = stepBy clockOf σ w
+  step w = step_by clock_of σ w
 
   abbrev pub note : World M → Note
-  note w = noteBy clockOf σ w
+  note w = note_by clock_of σ w
 
-  abbrev pub stepCounted : System M → System M
-  stepCounted s = stepCountedBy clockOf σ s
+  abbrev pub step_counted : System M → System M
+  step_counted s = step_counted_by clock_of σ s
 
   abbrev pub clocked : ℕ → System M → System M
-  clocked n s = clockedBy clockOf σ n s
+  clocked n s = clocked_by clock_of σ n s

@@ -7,12 +7,12 @@ use Prim.Native.String.{String, len, char_at}
 use Rattle.runs.specs.Sessions.{session}
 
 -- a text of ASCII as bytes
-unfoldable pub asciiFrom : ℕ → ℕ → String → List ℕ
-asciiFrom zero at text = []
-asciiFrom (suc count) at text = code (char_at text at) ∷ asciiFrom count (at + 1) text
+unfoldable pub ascii_from : ℕ → ℕ → String → List ℕ
+ascii_from zero at text = []
+ascii_from (suc count) at text = code (char_at text at) ∷ ascii_from count (at + 1) text
 
 abbrev pub ascii : String → List ℕ
-ascii text = asciiFrom (len text) 0 text
+ascii text = ascii_from (len text) 0 text
 
 -- what is seen of a session: the lines, the fault, the first and the last byte of memory
 pub record Seen : Type 0 where
@@ -33,11 +33,11 @@ example bytes lines fault = record { bytes = bytes; lines = lines; fault = fault
 
 -- records: a port write on a port below 256, and on 006B; a port read of a port whose low byte is 6B; a grant of fewer than
 -- 256 clocks
-abbrev pub writeTo : ℕ → ℕ → List ℕ
-writeTo port byte = 0 ∷ 4 ∷ 1 ∷ 0 ∷ port ∷ byte ∷ []
+abbrev pub write_to : ℕ → ℕ → List ℕ
+write_to port byte = 0 ∷ 4 ∷ 1 ∷ 0 ∷ port ∷ byte ∷ []
 
 abbrev pub write : ℕ → List ℕ
-write byte = writeTo 0x6B byte
+write byte = write_to 0x6B byte
 
 abbrev pub read : ℕ → List ℕ
 read high = 0 ∷ 3 ∷ 2 ∷ high ∷ 0x6B ∷ []
@@ -68,7 +68,7 @@ examples =
     "W 0\nW 0\nW 0\nW 0\nW 0\nW 0\nW 0\nW 0\nW 0\nW 0\nW 0\nW 0\nW 0\nW 0\nW 0\nW 0\nW 3\nG 0\nR 0 1B\nR 0 04\nR 0 00\nR 0 04\nR 0 10\nR 0 04\nR 0 20\nB 16 0 0\n"
     0
     -- AA of 10, 11 and 01, by both ports; with a parameter behind it
-    ∷ example (1 ∷ writes (0x02 ∷ 0x03 ∷ 0x01 ∷ []) ++ writeTo 0x0B 0x03) "W 0 !\nW 0 !\nW 0\nW 0 !\nB 0 0 0\n" 0
+    ∷ example (1 ∷ writes (0x02 ∷ 0x03 ∷ 0x01 ∷ []) ++ write_to 0x0B 0x03) "W 0 !\nW 0 !\nW 0\nW 0 !\nB 0 0 0\n" 0
     ∷ example (1 ∷ writes (0x0E ∷ 0x02 ∷ 0x0F ∷ 0x03 ∷ 0x0D ∷ 0x03 ∷ [])) "W 0 !\nW 0\nW 0 !\nW 0\nW 0\nW 0\nB 0 0 0\n" 0
     -- A's timing of 11, 10, 01 and 00; B's of 11 with the prescaler 3 behind it, without one, and of 10
     ∷ example (1 ∷ writes (0x44 ∷ 0x03 ∷ 0x44 ∷ 0x02 ∷ 0x44 ∷ 0x01 ∷ 0x44 ∷ 0x00 ∷ [])) "W 0\nW 0 !\nW 0\nW 0\nW 0\nW 0\nW 0\nW 0\nB 0 0 0\n" 0
@@ -81,7 +81,7 @@ examples =
     -- WR3, WR5 and WR6 with the same bits, and bytes that select no register
     ∷ example (1 ∷ writes (0x80 ∷ 0x82 ∷ 0x83 ∷ 0xE3 ∷ 0x86 ∷ 0xE2 ∷ [])) "W 0\nW 0\nW 0\nW 0\nW 0\nW 0\nB 0 0 0\n" 0
     -- refused for its port, and while the bus is held
-    ∷ example (1 ∷ writeTo 0x6C 0x03 ++ writeTo 0x0B 0x87 ++ write 0x03) "W 2\nW 0\nW 3\nB 0 0 0\n" 0
+    ∷ example (1 ∷ write_to 0x6C 0x03 ++ write_to 0x0B 0x87 ++ write 0x03) "W 2\nW 0\nW 3\nB 0 0 0\n" 0
     -- a wrong port, and a count of more than one digit
     ∷ example (1 ∷ 0 ∷ 3 ∷ 2 ∷ 0 ∷ 0x6C ∷ grant 200) "R 2\nG 0\nB 0 0 200\n" 0
     -- no record; no version; another version, whatever comes behind it

@@ -2,7 +2,7 @@
 -- Assumes nothing.
 use Rattle.std.specs.Prelude.{ℕ, ◌≡◌, Bool, false, List, ◌++◌}
 use Rattle.rules.specs.Buffers.{Buffers}
-use Rattle.session.specs.Steps.{needsBytes, Outcome, step_of}
+use Rattle.session.specs.Steps.{needs_bytes, Outcome, step_of}
 use Rattle.session.specs.declared.step.Session.{Session}
 
 -- the step that goes on from an outcome, with these bytes at hand
@@ -12,5 +12,5 @@ next o xs ended = step_of o.said.step.session xs o.said.step.next ended o.said.l
 -- of a step over the bytes xs, with more to come: where it does not wait, it is the step over xs and any further bytes ys;
 -- where it waits, the step that goes on from it over xs and ys is the step over them from where it began
 pub record StepStands (s : Session) (xs : List ℕ) (p : ℕ) (out : List ℕ) (b : Buffers (List ℕ)) (ys : List ℕ) (ended : Bool) : Type 0 where
-  pub stands : ((step_of s xs p false out b).said.step.progress ≡ needsBytes → ⊥) → step_of s (xs ++ ys) p ended out b ≡ step_of s xs p false out b
-  pub waits : (step_of s xs p false out b).said.step.progress ≡ needsBytes → next (step_of s xs p false out b) (xs ++ ys) ended ≡ step_of s (xs ++ ys) p ended out b
+  pub stands : ((step_of s xs p false out b).said.step.progress ≡ needs_bytes → ⊥) → step_of s (xs ++ ys) p ended out b ≡ step_of s xs p false out b
+  pub waits : (step_of s xs p false out b).said.step.progress ≡ needs_bytes → next (step_of s xs p false out b) (xs ++ ys) ended ≡ step_of s (xs ++ ys) p ended out b

@@ -7,16 +7,16 @@ use Rattle.rules.specs.Bytes.{AreBytes}
 use Rattle.rules.specs.Buffers.{flat}
 use Rattle.rules.specs.World.{System}
 use Rattle.rules.specs.Calls.{Answered}
-use Rattle.rules.specs.Entries.{Poke, flatOutside, Entry, Run, run, systemAtPowerOn}
-use Rattle.rules.specs.History.{History, history, pastAtPowerOn}
+use Rattle.rules.specs.Entries.{Poke, flat_outside, Entry, Run, run, system_at_power_on}
+use Rattle.rules.specs.History.{History, history, past_at_power_on}
 use Rattle.rules.specs.Splitting.{SplitsAt}
 use Rattle.rules.specs.Accounts.{Accounted}
 use Rattle.rules.specs.Reached.{Reached}
-use Rattle.rules.specs.Warned.{warningsOf, warningsAlong}
-use Rattle.records.specs.Records.{version, noVersion, inputEnds, recordAt}
-use Rattle.lines.specs.Lines.{countsLine, faultLine}
+use Rattle.rules.specs.Warned.{warnings_of, warnings_along}
+use Rattle.records.specs.Records.{version, no_version, input_ends, record_at}
+use Rattle.lines.specs.Lines.{counts_line, fault_line}
 use Rattle.session.specs.Effects.{entry_of}
-use Rattle.session.specs.Steps.{answerLine}
+use Rattle.session.specs.Steps.{answer_line}
 use Rattle.records.specs.declared.Record.{Record}
 
 -- ---- decode: the records of a session's bytes
@@ -26,46 +26,46 @@ pub record Decoded : Type 0 where
   pub records : List Record
   pub fault : ℕ
 
-abbrev pub endsBy : ℕ → Decoded
-endsBy fault = record { records = []; fault = fault }
+abbrev pub ends_by : ℕ → Decoded
+ends_by fault = record { records = []; fault = fault }
 
-abbrev pub recordBefore : Record → Decoded → Decoded
-recordBefore r d = record { records = r ∷ d.records; fault = d.fault }
+abbrev pub record_before : Record → Decoded → Decoded
+record_before r d = record { records = r ∷ d.records; fault = d.fault }
 
 -- the records from place p on, of which there are at most so many; each takes bytes, so that where as many are allowed as
 -- there are bytes, none is left
-unfoldable pub decodedFrom : ℕ → List ℕ → ℕ → Decoded
-decodedFrom zero xs p = endsBy 0
-decodedFrom (suc most) xs p =
-    let r : Record = recordAt xs p true in
-    pick (eqb r.number inputEnds) (endsBy 0)
-    (pick (leb noVersion r.number) (endsBy r.number) (recordBefore r (decodedFrom most xs r.next)))
+unfoldable pub decoded_from : ℕ → List ℕ → ℕ → Decoded
+decoded_from zero xs p = ends_by 0
+decoded_from (suc most) xs p =
+    let r : Record = record_at xs p true in
+    pick (eqb r.number input_ends) (ends_by 0)
+    (pick (leb no_version r.number) (ends_by r.number) (record_before r (decoded_from most xs r.next)))
 
 -- the version byte, 1, and the records behind it
 unfoldable pub decoded : List ℕ → Decoded
-decoded xs = pick (eqb (get_or xs 0 0) version) (decodedFrom (length xs) xs 1) (endsBy noVersion)
+decoded xs = pick (eqb (get_or xs 0 0) version) (decoded_from (length xs) xs 1) (ends_by no_version)
 
 -- ---- run: the records are a list of calls
 
 -- the entries of records
-unfoldable pub entriesOf : List ℕ → List Record → List (Entry flat (List Poke))
-entriesOf xs [] = []
-entriesOf xs (r ∷ rs) = entry_of xs r ∷ entriesOf xs rs
+unfoldable pub entries_of : List ℕ → List Record → List (Entry flat (List Poke))
+entries_of xs [] = []
+entries_of xs (r ∷ rs) = entry_of xs r ∷ entries_of xs rs
 
 -- the entries of a session
-abbrev pub sessionEntries : List ℕ → List (Entry flat (List Poke))
-sessionEntries xs = entriesOf xs (decoded xs).records
+abbrev pub session_entries : List ℕ → List (Entry flat (List Poke))
+session_entries xs = entries_of xs (decoded xs).records
 
 abbrev pub start : System (List ℕ)
-start = systemAtPowerOn (replicate 65536 0) (replicate 65536 0)
+start = system_at_power_on (replicate 65536 0) (replicate 65536 0)
 
 -- the run of a session's calls, from power-on
 abbrev pub run_of : List ℕ → Run (List ℕ)
-run_of xs = run flat flatOutside (sessionEntries xs) start
+run_of xs = run flat flat_outside (session_entries xs) start
 
 -- and their history
-abbrev pub historyOf : List ℕ → History (List ℕ)
-historyOf xs = history flat flatOutside (sessionEntries xs) (pastAtPowerOn (replicate 65536 0) (replicate 65536 0))
+abbrev pub history_of : List ℕ → History (List ℕ)
+history_of xs = history flat flat_outside (session_entries xs) (past_at_power_on (replicate 65536 0) (replicate 65536 0))
 
 -- ---- print: the answers are lines
 
@@ -73,11 +73,11 @@ historyOf xs = history flat flatOutside (sessionEntries xs) (pastAtPowerOn (repl
 unfoldable pub lines_of : List Record → List Answered → List ℕ
 lines_of [] answers = []
 lines_of (r ∷ rs) [] = []
-lines_of (r ∷ rs) (a ∷ answers) = answerLine r a ++ lines_of rs answers
+lines_of (r ∷ rs) (a ∷ answers) = answer_line r a ++ lines_of rs answers
 
 -- the last line
-unfoldable pub lastLine : ℕ → System (List ℕ) → List ℕ
-lastLine fault s = pick (eqb fault 0) (countsLine s.clocks) (faultLine fault)
+unfoldable pub last_line : ℕ → System (List ℕ) → List ℕ
+last_line fault s = pick (eqb fault 0) (counts_line s.clocks) (fault_line fault)
 
 -- ---- the session
 
@@ -92,7 +92,7 @@ pub record Ended : Type 0 where
 abbrev pub printed : Decoded → Run (List ℕ) → Ended
 printed d r =
     record {
-      lines = lines_of d.records r.answers ++ lastLine d.fault r.system;
+      lines = lines_of d.records r.answers ++ last_line d.fault r.system;
       fault = d.fault;
       system = r.system;
     }
@@ -111,13 +111,13 @@ FaultKnown xs = FaultNumber (session xs).fault
 
 -- a session leaves no record behind: to allow for more records changes nothing
 abbrev pub AllRead : List ℕ → Type 0
-AllRead xs = (more : ℕ) → decodedFrom (more + length xs) xs 1 ≡ decodedFrom (length xs) xs 1
+AllRead xs = (more : ℕ) → decoded_from (more + length xs) xs 1 ≡ decoded_from (length xs) xs 1
 
 -- a session is the run of its calls by definition: device and buffers at the end are the run's, the lines are those of the
 -- run's answers, in order, and the last one. So demand 3 holds of its list, and where its bytes are bytes, its device is valid
 -- and its grants split. Its warnings are those by its history
 pub record SessionRuns (xs : List ℕ) : Type 0 where
-  pub accounted : Accounted (sessionEntries xs) (run_of xs) (historyOf xs)
-  pub reached : AreBytes xs → Reached (run_of xs) (historyOf xs)
+  pub accounted : Accounted (session_entries xs) (run_of xs) (history_of xs)
+  pub reached : AreBytes xs → Reached (run_of xs) (history_of xs)
   pub splits : AreBytes xs → SplitsAt flat (run_of xs).system
-  pub warnings : warningsOf (run_of xs).answers ≡ warningsAlong flat flatOutside (sessionEntries xs) (pastAtPowerOn (replicate 65536 0) (replicate 65536 0))
+  pub warnings : warnings_of (run_of xs).answers ≡ warnings_along flat flat_outside (session_entries xs) (past_at_power_on (replicate 65536 0) (replicate 65536 0))

@@ -5,9 +5,9 @@ use Rattle.rules.specs.Choice.{pick}
 use Rattle.rules.specs.Buffers.{flat}
 use Rattle.rules.specs.World.{System}
 use Rattle.rules.specs.Calls.{Answer}
-use Rattle.rules.specs.Entries.{Poke, flatOutside, Entry, portWrite, portRead, clockGrant, outsideChange, enter}
-use Rattle.zxndma.specs.Answers.{systemOf}
-use Rattle.records.specs.Records.{writeKind, readKind, grantKind, memoryKind}
+use Rattle.rules.specs.Entries.{Poke, flat_outside, Entry, port_write, port_read, clock_grant, outside_change, enter}
+use Rattle.zxndma.specs.Answers.{system_of}
+use Rattle.records.specs.Records.{write_kind, read_kind, grant_kind, memory_kind}
 use Rattle.records.specs.declared.Record.{Record}
 use Rattle.session.specs.declared.effect.Effect.{Effect}
 
@@ -21,19 +21,19 @@ pokes (suc count) xs p address =
 -- nothing
 unfoldable pub entry_of : List ℕ → Record → Entry flat (List Poke)
 entry_of xs r =
-    pick (r.number == writeKind) (portWrite r.word r.byte)
-    (pick (r.number == readKind) (portRead r.word)
-    (pick (r.number == grantKind) (clockGrant r.clocks)
-    (pick (r.number == memoryKind) (outsideChange (pokes (r.next - r.start) xs r.start r.word)) (outsideChange []))))
+    pick (r.number == write_kind) (port_write r.word r.byte)
+    (pick (r.number == read_kind) (port_read r.word)
+    (pick (r.number == grant_kind) (clock_grant r.clocks)
+    (pick (r.number == memory_kind) (outside_change (pokes (r.next - r.start) xs r.start r.word)) (outside_change []))))
 
 -- a record's effect
 abbrev pub effect : List ℕ → Record → System (List ℕ) → Answer (List ℕ)
-effect xs r s = enter flat flatOutside (entry_of xs r) s
+effect xs r s = enter flat flat_outside (entry_of xs r) s
 
 -- the answer in code, with both buffers as they are left
-abbrev pub effectAnswer : Effect → List ℕ → List ℕ → Answer (List ℕ)
-effectAnswer e m l =
+abbrev pub effect_answer : Effect → List ℕ → List ℕ → Answer (List ℕ)
+effect_answer e m l =
     record {
       answered = record { number = e.number; byte = e.byte; warning = e.warning };
-      system = systemOf e.device m l;
+      system = system_of e.device m l;
     }

@@ -7,10 +7,10 @@ use Rattle.rules.specs.Choice.{pick}
 use Rattle.rules.specs.Buffers.{Buffers, placed}
 use Rattle.rules.specs.World.{System}
 use Rattle.rules.specs.Calls.{Answered, Answer}
-use Rattle.zxndma.specs.Answers.{deviceAtPowerOn, systemOf}
+use Rattle.zxndma.specs.Answers.{device_at_power_on, system_of}
 use Rattle.zxndma.specs.declared.Device.{Device}
-use Rattle.records.specs.Records.{version, noVersion, moreNeeded, inputEnds, cutShort, wrongRecord, recordAt, longLength}
-use Rattle.lines.specs.Lines.{recordLine, countsLine, faultLine, room}
+use Rattle.records.specs.Records.{version, no_version, more_needed, input_ends, cut_short, wrong_record, record_at, long_length}
+use Rattle.lines.specs.Lines.{record_line, counts_line, fault_line, room}
 use Rattle.session.specs.Effects.{effect}
 use Rattle.records.specs.declared.Record.{Record}
 use Rattle.session.specs.declared.step.Session.{Session}
@@ -29,123 +29,123 @@ pub record Outcome : Type 0 where
 -- ---- the phases of a session: its version byte comes next; a record does; it is within a record that is too long for any
 -- kind; it is over
 
-abbrev pub atVersion : ℕ
-atVersion = 0
+abbrev pub at_version : ℕ
+at_version = 0
 
-abbrev pub atRecord : ℕ
-atRecord = 1
+abbrev pub at_record : ℕ
+at_record = 1
 
-abbrev pub inLong : ℕ
-inLong = 2
+abbrev pub in_long : ℕ
+in_long = 2
 
 abbrev pub over : ℕ
 over = 3
 
-abbrev pub inPhase : ℕ → ℕ → Device → Session
-inPhase phase left d = record { phase = phase; left = left; device = d }
+abbrev pub in_phase : ℕ → ℕ → Device → Session
+in_phase phase left d = record { phase = phase; left = left; device = d }
 
-abbrev pub sessionAtStart : Session
-sessionAtStart = inPhase atVersion 0 deviceAtPowerOn
+abbrev pub session_at_start : Session
+session_at_start = in_phase at_version 0 device_at_power_on
 
 -- ---- how a step goes on: bytes were taken; more bytes are needed; the session is over; the slice for the line is too short
 
-abbrev pub goesOn : ℕ
-goesOn = 0
+abbrev pub goes_on : ℕ
+goes_on = 0
 
-abbrev pub needsBytes : ℕ
-needsBytes = 1
+abbrev pub needs_bytes : ℕ
+needs_bytes = 1
 
 abbrev pub is_over : ℕ
 is_over = 2
 
-abbrev pub noRoom : ℕ
-noRoom = 9
+abbrev pub no_room : ℕ
+no_room = 9
 
 -- no line: the progress, the next place, the session
-abbrev pub stepWithoutLine : ℕ → ℕ → Session → Step
-stepWithoutLine progress next s = record { progress = progress; fault = 0; next = next; length = 0; session = s }
+abbrev pub step_without_line : ℕ → ℕ → Session → Step
+step_without_line progress next s = record { progress = progress; fault = 0; next = next; length = 0; session = s }
 
-abbrev pub withoutLine : ℕ → ℕ → Session → List ℕ → Said
-withoutLine progress next s out = record { step = stepWithoutLine progress next s; line = out }
+abbrev pub without_line : ℕ → ℕ → Session → List ℕ → Said
+without_line progress next s out = record { step = step_without_line progress next s; line = out }
 
 -- a line: its bytes at the front, the rest of the slice as it was
-abbrev pub withLine : ℕ → ℕ → ℕ → List ℕ → Session → List ℕ → Said
-withLine progress fault next bytes s out =
+abbrev pub with_line : ℕ → ℕ → ℕ → List ℕ → Session → List ℕ → Said
+with_line progress fault next bytes s out =
     record {
       step = record { progress = progress; fault = fault; next = next; length = length bytes; session = s };
       line = placed 0 bytes out;
     }
 
 -- the last line of a session with a fault, and of one without
-abbrev pub lastFault : ℕ → ℕ → Device → List ℕ → Said
-lastFault fault next d out = withLine is_over fault next (faultLine fault) (inPhase over 0 d) out
+abbrev pub last_fault : ℕ → ℕ → Device → List ℕ → Said
+last_fault fault next d out = with_line is_over fault next (fault_line fault) (in_phase over 0 d) out
 
-abbrev pub lastCounts : ℕ → Device → List ℕ → Said
-lastCounts next d out = withLine is_over 0 next (countsLine d.clocks) (inPhase over 0 d) out
+abbrev pub last_counts : ℕ → Device → List ℕ → Said
+last_counts next d out = with_line is_over 0 next (counts_line d.clocks) (in_phase over 0 d) out
 
 -- an answer that leaves the buffers alone
-abbrev pub buffersKept : Buffers (List ℕ) → Said → Outcome
-buffersKept b said = record { said = said; buffers = b }
+abbrev pub buffers_kept : Buffers (List ℕ) → Said → Outcome
+buffers_kept b said = record { said = said; buffers = b }
 
 -- ---- the phases
 
 -- the version byte is 1
-unfoldable pub versionStep : Session → List ℕ → ℕ → Bool → List ℕ → Said
-versionStep s xs p ended out =
-    pick (nat_le (length xs) p) (pick ended (lastFault noVersion p s.device out) (withoutLine needsBytes p s out))
-    (pick (slice_index xs p == version) (withoutLine goesOn (p + 1) (inPhase atRecord 0 s.device) out) (lastFault noVersion (p + 1) s.device out))
+unfoldable pub version_step : Session → List ℕ → ℕ → Bool → List ℕ → Said
+version_step s xs p ended out =
+    pick (nat_le (length xs) p) (pick ended (last_fault no_version p s.device out) (without_line needs_bytes p s out))
+    (pick (slice_index xs p == version) (without_line goes_on (p + 1) (in_phase at_record 0 s.device) out) (last_fault no_version (p + 1) s.device out))
 
 -- within a record that is too long: its bytes are counted, and nothing else
-unfoldable pub longStep : Session → List ℕ → ℕ → Bool → List ℕ → Said
-longStep s xs p ended out =
-    pick (nat_le s.left (length xs - p)) (lastFault wrongRecord (p + s.left) s.device out)
+unfoldable pub long_step : Session → List ℕ → ℕ → Bool → List ℕ → Said
+long_step s xs p ended out =
+    pick (nat_le s.left (length xs - p)) (last_fault wrong_record (p + s.left) s.device out)
     (pick ended
-    (lastFault cutShort (p + (length xs - p)) s.device out)
-    (withoutLine needsBytes (p + (length xs - p)) (inPhase inLong (s.left - (length xs - p)) s.device) out))
+    (last_fault cut_short (p + (length xs - p)) s.device out)
+    (without_line needs_bytes (p + (length xs - p)) (in_phase in_long (s.left - (length xs - p)) s.device) out))
 
 -- the device of a system
-abbrev pub deviceOf : System (List ℕ) → Device
-deviceOf s = record { core = s.world.core; clocks = s.clocks }
+abbrev pub device_of : System (List ℕ) → Device
+device_of s = record { core = s.world.core; clocks = s.clocks }
 
 -- the line of a record by what it was answered
-abbrev pub answerLine : Record → Answered → List ℕ
-answerLine r a = recordLine r.number a.number a.byte a.warning
+abbrev pub answer_line : Record → Answered → List ℕ
+answer_line r a = record_line r.number a.number a.byte a.warning
 
 -- a record that was carried out
 abbrev pub carried : Record → Answer (List ℕ) → List ℕ → Outcome
 carried r a out =
     record {
       said =
-          withLine goesOn 0 r.next (answerLine r a.answered) (inPhase atRecord 0 (deviceOf a.system)) out;
+          with_line goes_on 0 r.next (answer_line r a.answered) (in_phase at_record 0 (device_of a.system)) out;
       buffers = a.system.world.buffers;
     }
 
 -- a device with its buffers
-abbrev pub systemWith : Device → Buffers (List ℕ) → System (List ℕ)
-systemWith d b = systemOf d b.memory b.latches
+abbrev pub system_with : Device → Buffers (List ℕ) → System (List ℕ)
+system_with d b = system_of d b.memory b.latches
 
 -- by what stands at the place
-unfoldable pub byRecord : Record → Session → List ℕ → List ℕ → Buffers (List ℕ) → Outcome
-byRecord r s xs out b =
-    pick (r.number == moreNeeded) (buffersKept b (withoutLine needsBytes r.next s out))
-    (pick (r.number == inputEnds) (buffersKept b (lastCounts r.next s.device out))
-    (pick (nat_le noVersion r.number) (buffersKept b (lastFault r.number r.next s.device out))
-    (carried r (effect xs r (systemWith s.device b)) out)))
+unfoldable pub by_record : Record → Session → List ℕ → List ℕ → Buffers (List ℕ) → Outcome
+by_record r s xs out b =
+    pick (r.number == more_needed) (buffers_kept b (without_line needs_bytes r.next s out))
+    (pick (r.number == input_ends) (buffers_kept b (last_counts r.next s.device out))
+    (pick (nat_le no_version r.number) (buffers_kept b (last_fault r.number r.next s.device out))
+    (carried r (effect xs r (system_with s.device b)) out)))
 
 -- a record; of one that is too long for any kind, its length
-unfoldable pub recordStep : Session → List ℕ → ℕ → Bool → List ℕ → Buffers (List ℕ) → Outcome
-recordStep s xs p ended out b =
-    pick (longLength xs p == 0)
-    (byRecord (recordAt xs p ended) s xs out b)
-    (buffersKept b (withoutLine goesOn (p + 2) (inPhase inLong (longLength xs p) s.device) out))
+unfoldable pub record_step : Session → List ℕ → ℕ → Bool → List ℕ → Buffers (List ℕ) → Outcome
+record_step s xs p ended out b =
+    pick (long_length xs p == 0)
+    (by_record (record_at xs p ended) s xs out b)
+    (buffers_kept b (without_line goes_on (p + 2) (in_phase in_long (long_length xs p) s.device) out))
 
 -- a step: nothing but its progress where the slice for the line is too short. A phase above 2 is a session that is over
 unfoldable pub step_of : Session → List ℕ → ℕ → Bool → List ℕ → Buffers (List ℕ) → Outcome
 step_of s xs p ended out b =
-    pick (nat_lt (length out) room) (buffersKept b (withoutLine noRoom p s out))
-    (pick (s.phase == atVersion) (buffersKept b (versionStep s xs p ended out))
-    (pick (s.phase == atRecord) (recordStep s xs p ended out b)
-    (pick (s.phase == inLong) (buffersKept b (longStep s xs p ended out)) (buffersKept b (withoutLine is_over p s out)))))
+    pick (nat_lt (length out) room) (buffers_kept b (without_line no_room p s out))
+    (pick (s.phase == at_version) (buffers_kept b (version_step s xs p ended out))
+    (pick (s.phase == at_record) (record_step s xs p ended out b)
+    (pick (s.phase == in_long) (buffers_kept b (long_step s xs p ended out)) (buffers_kept b (without_line is_over p s out)))))
 
 -- the answer in code, with the slices as they are left
 abbrev pub said : Step → List ℕ → Said

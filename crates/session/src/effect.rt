@@ -1,8 +1,8 @@
 // What a record does to device, memory and latches.
 ghost use Rattle.std.specs.Prelude.{◌≡◌, ◌-◌};
 ghost use Rattle.rules.specs.Entries.{poked};
-ghost use Rattle.zxndma.specs.Answers.{systemOf};
-ghost use Rattle.session.specs.Effects.{pokes, effectAnswer};
+ghost use Rattle.zxndma.specs.Answers.{system_of};
+ghost use Rattle.session.specs.Effects.{pokes, effect_answer};
 ghost use Rattle.session.specs.Effects.{effect as effect_of};
 
 use parts::{bytes, warning};
@@ -40,7 +40,7 @@ pub fn carry_out(
     memory: &mut [u8],
     latches: &mut [u8],
 ) -> Effect
-    ensures { effectAnswer result memory.new latches.new ≡ effect_of input.now found (systemOf device memory.old latches.old) }
+    ensures { effect_answer result memory.new latches.new ≡ effect_of input.now found (system_of device memory.old latches.old) }
 {
     if found.number == records::WRITE {
         let answer = device.write(found.word, found.byte);

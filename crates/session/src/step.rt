@@ -1,8 +1,8 @@
 // A session, a step at a time.
 ghost use Rattle.std.specs.Prelude.{◌≡◌, ◌-◌, ◌≤◌, length};
 ghost use Rattle.clocking.specs.Answers.{borrowed};
-ghost use Rattle.zxndma.specs.Answers.{systemOf};
-ghost use Rattle.session.specs.Steps.{sessionAtStart, inPhase, stepWithoutLine, lastFault, lastCounts, versionStep, longStep, carried, byRecord, recordStep, step_of, said, outcome};
+ghost use Rattle.zxndma.specs.Answers.{system_of};
+ghost use Rattle.session.specs.Steps.{session_at_start, in_phase, step_without_line, last_fault, last_counts, version_step, long_step, carried, by_record, record_step, step_of, said, outcome};
 ghost use Rattle.session.specs.Effects.{effect as effect_of};
 
 use crate::effect;
@@ -62,7 +62,7 @@ pub struct Step {
 }
 
 fn in_phase(phase: u8, left: usize, device: Device) -> Session
-    ensures { result ≡ inPhase phase left device }
+    ensures { result ≡ in_phase phase left device }
 {
     Session {
         phase,
@@ -73,7 +73,7 @@ fn in_phase(phase: u8, left: usize, device: Device) -> Session
 
 // A step without a line.
 fn say_nothing(progress: u8, next: usize, session: Session) -> Step
-    ensures { result ≡ stepWithoutLine progress next session }
+    ensures { result ≡ step_without_line progress next session }
 {
     Step {
         progress,
@@ -87,7 +87,7 @@ fn say_nothing(progress: u8, next: usize, session: Session) -> Step
 // The last step of a session with a fault.
 fn say_fault(fault: u8, next: usize, device: Device, out: &mut [u8]) -> Step
     requires { 72 ≤ length out.old }
-    ensures { said result out.new ≡ lastFault fault next device out.old }
+    ensures { said result out.new ≡ last_fault fault next device out.old }
 {
     let length = lines::put_fault_line(fault, out);
     let session = in_phase(OVER, 0, device);
@@ -103,7 +103,7 @@ fn say_fault(fault: u8, next: usize, device: Device, out: &mut [u8]) -> Step
 // The last step of a session without a fault.
 fn say_counts(next: usize, device: Device, out: &mut [u8]) -> Step
     requires { 72 ≤ length out.old }
-    ensures { said result out.new ≡ lastCounts next device out.old }
+    ensures { said result out.new ≡ last_counts next device out.old }
 {
     let clocks = device.clocks;
     let length = lines::put_counts_line(clocks, out);
@@ -120,7 +120,7 @@ fn say_counts(next: usize, device: Device, out: &mut [u8]) -> Step
 // The version byte.
 fn version_step(session: Session, input: &[u8], place: usize, ended: bool, out: &mut [u8]) -> Step
     requires { 72 ≤ length out.old }
-    ensures { said result out.new ≡ versionStep session input.now place ended out.old }
+    ensures { said result out.new ≡ version_step session input.now place ended out.old }
 {
     let device = session.device;
     if input.len() <= place {
@@ -149,7 +149,7 @@ fn rest_of(count: usize, place: usize) -> usize
 // Within a record that is too long for any kind.
 fn long_step(session: Session, input: &[u8], place: usize, ended: bool, out: &mut [u8]) -> Step
     requires { 72 ≤ length out.old }
-    ensures { said result out.new ≡ longStep session input.now place ended out.old }
+    ensures { said result out.new ≡ long_step session input.now place ended out.old }
 {
     let device = session.device;
     let left = session.left;
@@ -174,7 +174,7 @@ fn carry(
     latches: &mut [u8],
 ) -> Step
     requires { 72 ≤ length out.old }
-    ensures { outcome result out.new memory.new latches.new ≡ carried found (effect_of input.now found (systemOf device memory.old latches.old)) out.old }
+    ensures { outcome result out.new memory.new latches.new ≡ carried found (effect_of input.now found (system_of device memory.old latches.old)) out.old }
 {
     let done = effect::carry_out(found, input, device, memory, latches);
     let length = lines::put_record_line(found.number, done.number, done.byte, done.warning, out);
@@ -199,7 +199,7 @@ fn by_record(
     latches: &mut [u8],
 ) -> Step
     requires { 72 ≤ length out.old }
-    ensures { outcome result out.new memory.new latches.new ≡ byRecord found session input.now out.old (borrowed memory.old latches.old) }
+    ensures { outcome result out.new memory.new latches.new ≡ by_record found session input.now out.old (borrowed memory.old latches.old) }
 {
     let device = session.device;
     if found.number == records::MORE {
@@ -225,7 +225,7 @@ fn record_step(
     latches: &mut [u8],
 ) -> Step
     requires { 72 ≤ length out.old }
-    ensures { outcome result out.new memory.new latches.new ≡ recordStep session input.now place ended out.old (borrowed memory.old latches.old) }
+    ensures { outcome result out.new memory.new latches.new ≡ record_step session input.now place ended out.old (borrowed memory.old latches.old) }
 {
     let long = records::long_length(input, place);
     if long == 0 {
@@ -240,7 +240,7 @@ fn record_step(
 impl Session {
     // A session before its first byte: a device at power-on.
     pub fn start() -> Self
-        ensures { result ≡ sessionAtStart }
+        ensures { result ≡ session_at_start }
     {
         let device = Device::power_on();
         Session {

@@ -16,9 +16,9 @@ pub going_start : (pairs : List ℕ) → Going pairs (length pairs) 0 0
 going_start pairs = record { within = omega arith; all = refl; small = omega arith; summed = ap (λ (n : ℕ). n % 2 ^ 64) (zero-add (sum pairs)) }
 
 -- the sum of the pairs left is the register of the next one, and the sum of those after it
-sum-next : (pairs : List ℕ) (i : ℕ) → i < length pairs → sum (drop i pairs) ≡ chosen (get_or pairs i 0 / 256 % 256) (get_or pairs i 0 % 256) + sum (drop (i + 1) pairs)
+sum_next : (pairs : List ℕ) (i : ℕ) → i < length pairs → sum (drop i pairs) ≡ chosen (get_or pairs i 0 / 256 % 256) (get_or pairs i 0 % 256) + sum (drop (i + 1) pairs)
 unfolding sum
-sum-next pairs i h = ap sum (drop-cons pairs i 0 h ∙ ap (λ (k : ℕ). get_or pairs i 0 ∷ drop k pairs) (sym (add-one i)))
+sum_next pairs i h = ap sum (drop-cons pairs i 0 h ∙ ap (λ (k : ℕ). get_or pairs i 0 ∷ drop k pairs) (sym (add-one i)))
 
 wrapped : (s r t : ℕ) → ((s + r) % 2 ^ 64 + t) % 2 ^ 64 ≡ (s + (r + t)) % 2 ^ 64
 wrapped s r t = omega arith
@@ -31,7 +31,7 @@ going_more pairs end s i r g h e =
       small = omega arith;
       summed =
           wrapped s r (sum (drop (i + 1) pairs))
-          ∙ ap (λ (n : ℕ). (s + n) % 2 ^ 64) (ap (λ (n : ℕ). n + sum (drop (i + 1) pairs)) e ∙ sym (sum-next pairs i (omega (arith, h, g.all))))
+          ∙ ap (λ (n : ℕ). (s + n) % 2 ^ 64) (ap (λ (n : ℕ). n + sum (drop (i + 1) pairs)) e ∙ sym (sum_next pairs i (omega (arith, h, g.all))))
           ∙ g.summed;
     }
 

@@ -2,8 +2,8 @@
 -- Assumes nothing.
 use mathlib.Core.Path.{ap}
 use Rattle.rules.specs.Steering.{bits}
-use Rattle.rules.proofs.Warned.{warnings-aside}
-use Rattle.zxndma.specs.Unwarned.{bareWriteAnswer, WriteAsBefore}
+use Rattle.rules.proofs.Warned.{warnings_aside}
+use Rattle.zxndma.specs.Unwarned.{bare_write_answer, WriteAsBefore}
 
-pub write-as-before : WriteAsBefore
-write-as-before d port byte = ap bareWriteAnswer (warnings-aside.write bits d.core d.clocks port byte)
+pub write_as_before : WriteAsBefore
+write_as_before d port byte = ap bare_write_answer (warnings_aside.write bits d.core d.clocks port byte)

@@ -2,18 +2,18 @@
 // with the answer; a refused call hands it back as it came.
 ghost use Rattle.std.specs.Prelude.{◌≡◌, ◌*◌, ◌-◌, ◌<◌};
 ghost use Rattle.rules.specs.Validity.{total, valid};
-ghost use Rattle.rules.specs.Floor.{cpuFloor};
-ghost use Rattle.rules.specs.Buffers.{lengthRefusal, flat};
+ghost use Rattle.rules.specs.Floor.{cpu_floor};
+ghost use Rattle.rules.specs.Buffers.{length_refusal, flat};
 ghost use Rattle.rules.specs.World.{clocked};
-ghost use Rattle.rules.specs.Refusals.{lentRefusal, grantRefusal};
-ghost use Rattle.rules.specs.Calls.{writeReply, readReply, speedReply, grant};
-ghost use Rattle.rules.specs.Parts.{withSlot};
-ghost use Rattle.rules.specs.Slots.{newSlot};
-ghost use Rattle.rules.specs.Clock.{cpuClock, kind_at};
-ghost use Rattle.rules.specs.WholeSlots.{slotsWithin, slotsPassed};
+ghost use Rattle.rules.specs.Refusals.{lent_refusal, grant_refusal};
+ghost use Rattle.rules.specs.Calls.{write_reply, read_reply, speed_reply, grant};
+ghost use Rattle.rules.specs.Parts.{with_slot};
+ghost use Rattle.rules.specs.Slots.{new_slot};
+ghost use Rattle.rules.specs.Clock.{cpu_clock, kind_at};
+ghost use Rattle.rules.specs.WholeSlots.{slots_within, slots_passed};
 ghost use Rattle.rules.specs.Turns.{Ready, Passed};
-ghost use Rattle.clocking.specs.Answers.{borrowed, countedWithin};
-ghost use Rattle.zxndma.specs.Answers.{device, deviceAtPowerOn, writeAnswer, readAnswer, speedAnswer, systemOf, grantAnswer};
+ghost use Rattle.clocking.specs.Answers.{borrowed, counted_within};
+ghost use Rattle.zxndma.specs.Answers.{device, device_at_power_on, write_answer, read_answer, speed_answer, system_of, grant_answer};
 
 use clocking::{clock, count, slots, span, stretch, transfer};
 use parts::{part, power_on, refusal, slot, valid, warning};
@@ -84,7 +84,7 @@ struct Progress {
 impl Device {
     // A device as it is when power comes on.
     pub fn power_on() -> Self
-        ensures { result ≡ deviceAtPowerOn }
+        ensures { result ≡ device_at_power_on }
     {
         let core = power_on::core();
         let clocks = power_on::no_clocks();
@@ -105,7 +105,7 @@ impl Device {
     // changes the device otherwise. At most 65. 0, which claims nothing, if the device is not valid, or if the slot that runs or
     // the one that the registers start, enabled or not, is continuous or no longer than its bus time.
     pub fn cpu_floor(self) -> u32
-        ensures { result ≡ cpuFloor self.core (total self.clocks) }
+        ensures { result ≡ cpu_floor self.core (total self.clocks) }
     {
         let core = self.core;
         let clocks = self.clocks;
@@ -115,7 +115,7 @@ impl Device {
     // A byte is written to the DMA's port: the port number's low byte is 6B (zxn mode) or 0B (Zilog mode). Refused with 1, 2
     // or 3, and then there is no warning and nothing changes.
     pub fn write(self, port: u16, byte: u8) -> WriteAnswer
-        ensures { result ≡ writeAnswer (writeReply self.core self.clocks port byte) }
+        ensures { result ≡ write_answer (write_reply self.core self.clocks port byte) }
     {
         let core = self.core;
         let clocks = self.clocks;
@@ -141,7 +141,7 @@ impl Device {
 
     // A byte is read from a port. Refused with 1, 2 or 3, and then the byte is 0 and nothing changes.
     pub fn read(self, port: u16) -> ReadAnswer
-        ensures { result ≡ readAnswer (readReply self.core self.clocks port) }
+        ensures { result ≡ read_answer (read_reply self.core self.clocks port) }
     {
         let core = self.core;
         let clocks = self.clocks;
@@ -168,7 +168,7 @@ impl Device {
     // The speed of the processor becomes that of a code: 0 is 3.5 MHz, 1 is 7, 2 is 14 and 3 is 28. Whoever has the bus; a slot
     // that runs keeps its figures. Refused with 1 or 7, and then nothing changes.
     pub fn set_speed(self, code: u8) -> SpeedAnswer
-        ensures { result ≡ speedAnswer (speedReply self.core self.clocks code) }
+        ensures { result ≡ speed_answer (speed_reply self.core self.clocks code) }
     {
         let core = self.core;
         let clocks = self.clocks;
@@ -188,7 +188,7 @@ impl Device {
     // That many clocks pass, and all of them are used. Memory and latches must be 65,536 bytes each. Refused with 1, 4, 5 or
     // 6, and then nothing changes.
     pub fn grant(self, memory: &mut [u8], latches: &mut [u8], clocks: u32) -> GrantAnswer
-        ensures { grantAnswer result memory.new latches.new ≡ grant flat (systemOf self memory.old latches.old) clocks }
+        ensures { grant_answer result memory.new latches.new ≡ grant flat (system_of self memory.old latches.old) clocks }
     {
         let number = self.grant_number(memory.len(), latches.len(), clocks);
         if number == 0 {
@@ -203,7 +203,7 @@ impl Device {
 
     // Why a grant is refused, 0 for accepted. The sum of a valid device's counts is within 64 bits, so that no sum wraps.
     fn grant_number(self, memory: usize, latches: usize, clocks: u32) -> u8
-        ensures { result ≡ lentRefusal self.core (total self.clocks) (lengthRefusal memory) latches clocks }
+        ensures { result ≡ lent_refusal self.core (total self.clocks) (length_refusal memory) latches clocks }
     {
         let counts = self.clocks;
         if !self.is_valid() {
@@ -224,8 +224,8 @@ impl Device {
 
     // The clocks of an accepted grant: at once where no byte moves and no slot ends on them.
     fn spend(self, memory: &mut [u8], latches: &mut [u8], clocks: u32) -> Device
-        requires { grantRefusal flat self.core (total self.clocks) (borrowed memory.old latches.old) clocks ≡ 0 }
-        ensures { systemOf result memory.new latches.new ≡ clocked flat clocks (systemOf self memory.old latches.old) }
+        requires { grant_refusal flat self.core (total self.clocks) (borrowed memory.old latches.old) clocks ≡ 0 }
+        ensures { system_of result memory.new latches.new ≡ clocked flat clocks (system_of self memory.old latches.old) }
     {
         if !self.core.enabled {
             return self.idle(clocks);
@@ -241,7 +241,7 @@ impl Device {
 
     // Clocks of a disabled device.
     fn idle(self, clocks: u32) -> Device
-        ensures { result ≡ device self.core (countedWithin cpuClock clocks self.clocks) }
+        ensures { result ≡ device self.core (counted_within cpu_clock clocks self.clocks) }
     {
         let core = self.core;
         let counts = self.clocks;
@@ -254,7 +254,7 @@ impl Device {
 
     // Clocks after which the slot is this one and nothing else has happened.
     fn wait(self, clocks: u32, slot: Slot) -> Device
-        ensures { result ≡ device (withSlot slot self.core) (countedWithin (kind_at slot.elapsed (withSlot slot self.core)) clocks self.clocks) }
+        ensures { result ≡ device (with_slot slot self.core) (counted_within (kind_at slot.elapsed (with_slot slot self.core)) clocks self.clocks) }
     {
         let core = self.core;
         let counts = self.clocks;
@@ -270,8 +270,8 @@ impl Device {
 
     // The clocks of an accepted grant, turn after turn.
     fn run(self, memory: &mut [u8], latches: &mut [u8], clocks: u32) -> Device
-        requires { grantRefusal flat self.core (total self.clocks) (borrowed memory.old latches.old) clocks ≡ 0 }
-        ensures { systemOf result memory.new latches.new ≡ clocked flat clocks (systemOf self memory.old latches.old) }
+        requires { grant_refusal flat self.core (total self.clocks) (borrowed memory.old latches.old) clocks ≡ 0 }
+        ensures { system_of result memory.new latches.new ≡ clocked flat clocks (system_of self memory.old latches.old) }
     {
         let mut device = self;
         let mut left = clocks;
@@ -286,7 +286,7 @@ impl Device {
     // Some of the clocks left pass: whole slots where there are any, else a span.
     fn turn(self, memory: &mut [u8], latches: &mut [u8], left: u32) -> Progress
         requires { Ready self.core self.clocks left }
-        ensures { Passed flat (systemOf self memory.old latches.old) (systemOf result.device memory.new latches.new) left result.left }
+        ensures { Passed flat (system_of self memory.old latches.old) (system_of result.device memory.new latches.new) left result.left }
     {
         let core = self.core;
         let slots = slots::slots_within(core, left);
@@ -298,8 +298,8 @@ impl Device {
 
     // All the whole slots that the clocks left have room for.
     fn pass_slots(self, memory: &mut [u8], latches: &mut [u8], left: u32, slots: u32) -> Progress
-        requires { Ready self.core self.clocks left × (slots ≡ slotsWithin self.core left) × (0 < slots) }
-        ensures { (systemOf result.device memory.new latches.new ≡ slotsPassed flat slots (systemOf self memory.old latches.old)) × (result.left ≡ left - slots * (newSlot self.core).length) }
+        requires { Ready self.core self.clocks left × (slots ≡ slots_within self.core left) × (0 < slots) }
+        ensures { (system_of result.device memory.new latches.new ≡ slots_passed flat slots (system_of self memory.old latches.old)) × (result.left ≡ left - slots * (new_slot self.core).length) }
     {
         let core = self.core;
         let counts = self.clocks;
@@ -327,7 +327,7 @@ impl Device {
     // The next span of the clocks left.
     fn pass_span(self, memory: &mut [u8], latches: &mut [u8], left: u32) -> Progress
         requires { Ready self.core self.clocks left }
-        ensures { Passed flat (systemOf self memory.old latches.old) (systemOf result.device memory.new latches.new) left result.left }
+        ensures { Passed flat (system_of self memory.old latches.old) (system_of result.device memory.new latches.new) left result.left }
     {
         let core = self.core;
         let counts = self.clocks;

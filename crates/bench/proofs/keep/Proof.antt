@@ -3,7 +3,7 @@
 use Prim.Native.Nat.{◌≤◌, ◌-◌}
 use borrow.Author.Rules.{rules}
 use lib.ListN.{length}
-use Rattle.bench.proofs.Buffered.{Keeping, keeping_start, keeping-more, keeping-end}
+use Rattle.bench.proofs.Buffered.{Keeping, keeping_start, keeping_more, keeping_end}
 use Rattle.bench.proofs.keep.Statement.{statement}
 use Rattle.bench.proofs.keep.Tie as tie
 
@@ -35,7 +35,7 @@ loop-again : tie.Need-loop-preserved invariant-loop decreases-loop
 loop-again c = let
     inv = c.before.before.loop.invariant
     in
-    (inv.0, keeping-more inv.1 inv.0 c.before.loop-test.true)
+    (inv.0, keeping_more inv.1 inv.0 c.before.loop-test.true)
 
 same_length : tie.Need-same-length invariant-loop decreases-loop
 same_length c = search rules
@@ -44,7 +44,7 @@ returns : tie.Need-returns invariant-loop decreases-loop
 returns c = let
     inv = c.before.loop.invariant
     in
-    keeping-end inv.1 inv.0 c.loop-test.false
+    keeping_end inv.1 inv.0 c.loop-test.false
 
 pub keep_spec : {M : Type 1} → statement M
 keep_spec =

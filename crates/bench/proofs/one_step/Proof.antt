@@ -2,7 +2,7 @@
 -- Assumes nothing.
 use borrow.Author.Rules.{rules}
 use Rattle.clocking.specs.Answers.{borrowed}
-use Rattle.bench.proofs.Working.{behind-lines}
+use Rattle.bench.proofs.Working.{behind_lines}
 use Rattle.bench.proofs.one_step.Statement.{statement}
 use Rattle.bench.proofs.one_step.Tie as tie
 
@@ -42,7 +42,7 @@ returns c = let
     in
     let a = start.args in
     let b = borrowed a.memory.now a.latches.now in
-    behind-lines a.filled a.session a.input.now a.have a.at a.ended a.output.now b start.pre.1 c.before.before.before.before.before.before.step.ensures
+    behind_lines a.filled a.session a.input.now a.have a.at a.ended a.output.now b start.pre.1 c.before.before.before.before.before.before.step.ensures
 
 pub one-step-spec : {M : Type 1} → statement M
 one-step-spec =

@@ -6,7 +6,7 @@ use borrow.Author.Rules.{rules}
 use borrow.Author.Tests.{not-false, not-true}
 use lib.ListN.{length}
 use Rattle.clocking.specs.Answers.{borrowed}
-use Rattle.bench.proofs.Turning.{Running, running-start, running_more, running-end}
+use Rattle.bench.proofs.Turning.{Running, running_start, running_more, running_end}
 use Rattle.bench.proofs.run.Statement.{statement}
 use Rattle.bench.proofs.run.Tie as tie
 
@@ -30,7 +30,7 @@ loop-holds : tie.Need-loop-init invariant-loop decreases-loop
 loop-holds c = let
     a = c.before.before.before.before.before.args
     in
-    (refl, refl, running-start a.memory.now a.latches.now c.start.ensures)
+    (refl, refl, running_start a.memory.now a.latches.now c.start.ensures)
 
 turn-requires : tie.Need-turn-requires invariant-loop decreases-loop
 turn-requires c κs = search rules
@@ -56,7 +56,7 @@ same-length-2 : tie.Need-same-length-2 invariant-loop decreases-loop
 same-length-2 c = search rules
 
 returns : tie.Need-returns invariant-loop decreases-loop
-returns c = running-end c.before.before.before.before.before.loop.invariant.2 (λ n. not-false _ c.before.before.if1.false)
+returns c = running_end c.before.before.before.before.before.loop.invariant.2 (λ n. not-false _ c.before.before.if1.false)
 
 same-length-3 : tie.Need-same-length-3 invariant-loop decreases-loop
 same-length-3 c = search rules
@@ -65,7 +65,7 @@ same-length-4 : tie.Need-same-length-4 invariant-loop decreases-loop
 same-length-4 c = search rules
 
 returns-2 : tie.Need-returns-2 invariant-loop decreases-loop
-returns-2 c = running-end c.before.before.before.loop.invariant.2 (λ n. absurd (omega (arith, n, c.before.before.loop-test.false)))
+returns-2 c = running_end c.before.before.before.loop.invariant.2 (λ n. absurd (omega (arith, n, c.before.before.loop-test.false)))
 
 pub run_spec : {M : Type 1} → statement M
 run_spec =

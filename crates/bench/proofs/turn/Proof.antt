@@ -2,7 +2,7 @@
 -- Assumes nothing.
 use borrow.Author.Rules.{rules}
 use Rattle.clocking.specs.Answers.{borrowed}
-use Rattle.bench.proofs.Turning.{are-lines, turned-unwritten, turned-over, turned_on, turned_more}
+use Rattle.bench.proofs.Turning.{are_lines, turned_unwritten, turned_over, turned_on, turned_more}
 use Rattle.bench.proofs.turn.Statement.{statement}
 use Rattle.bench.proofs.turn.Tie as tie
 
@@ -14,7 +14,7 @@ flush-requires c κs = let
     a = c.before.before.before.before.before.before.before.before.before.before.before.before.before.before.before.before.before.args
     in
     let work = c.before.before.before.before.before.before.before.before.work in
-    are-lines a.state a.input.now a.output.now (borrowed a.memory.now a.latches.now) work.ensures work.auto.1.1.0
+    are_lines a.state a.input.now a.output.now (borrowed a.memory.now a.latches.now) work.ensures work.auto.1.1.0
 
 same_length : tie.Need-same-length
 same_length c = search rules
@@ -34,7 +34,7 @@ returns c = let
     in
     let a = start.args in
     let b = borrowed a.memory.now a.latches.now in
-    turned-unwritten a.state a.input.now a.output.now b start.pre c.before.before.before.before.before.before.before.before.before.before.before.work.ensures
+    turned_unwritten a.state a.input.now a.output.now b start.pre c.before.before.before.before.before.before.before.before.before.before.before.work.ensures
 
 same-length-5 : tie.Need-same-length-5
 same-length-5 c = search rules
@@ -54,7 +54,7 @@ returns-2 c = let
     in
     let a = start.args in
     let b = borrowed a.memory.now a.latches.now in
-    turned-over a.state a.input.now a.output.now b start.pre c.before.before.before.before.before.before.before.before.before.before.before.before.before.work.ensures c.if2.true
+    turned_over a.state a.input.now a.output.now b start.pre c.before.before.before.before.before.before.before.before.before.before.before.before.before.work.ensures c.if2.true
 
 refill-requires : tie.Need-refill-requires
 refill-requires c κs = c.before.before.before.before.before.before.before.before.before.before.before.before.before.before.before.before.before.before.before.before.before.before.before.before.before.requires

@@ -4,7 +4,7 @@ use Prim.Native.Nat.{◌≤◌}
 use native.Mathlib.Omega.{arith}
 use borrow.Author.Rules.{rules}
 use lib.ListN.{length, take}
-use Rattle.bench.proofs.Working.{Going, toGo, going_start, going_more, going_less, going_end}
+use Rattle.bench.proofs.Working.{Going, to_go, going_start, going_more, going_less, going_end}
 use Rattle.bench.proofs.work.Statement.{statement}
 use Rattle.bench.proofs.work.Tie as tie
 
@@ -13,7 +13,7 @@ invariant-loop input output₀ memory₀ latches₀ have ended session₀ at₀ 
     (have ≤ length input) × Going (take have input) ended session₀ at₀ output₀ memory₀ latches₀ output memory latches session at filled progress
 
 abbrev decreases-loop : tie.decreases-loop
-decreases-loop input output₀ memory₀ latches₀ have ended session₀ at₀ filled₀ progress₀ output memory latches session at filled progress = toGo (take have input) progress at
+decreases-loop input output₀ memory₀ latches₀ have ended session₀ at₀ filled₀ progress₀ output memory latches session at filled progress = to_go (take have input) progress at
 
 loop-holds : tie.Need-loop-init invariant-loop decreases-loop
 loop-holds c = let

@@ -1,7 +1,7 @@
 -- The strict test is the list of tests.
 -- Assumes nothing.
 use Rattle.rules.proofs.Choice.{strict}
-use Rattle.rules.specs.Floor.{allShared}
+use Rattle.rules.specs.Floor.{all_shared}
 use borrow.Author.Rules.{rules}
 use Rattle.floor.proofs.all_shared.Statement.{statement}
 use Rattle.floor.proofs.all_shared.Tie as tie
@@ -19,7 +19,7 @@ is-shared-requires-2 : tie.Need-is-shared-requires-2
 is-shared-requires-2 c κs = search rules
 
 returns : tie.Need-returns
-unfolding allShared
+unfolding all_shared
 returns c =
     simp (strict, c.is-shared2.ensures, c.before.is_shared.ensures, c.before.before.slot_of.ensures, c.before.before.before.new-slot.ensures)
 

@@ -1,7 +1,7 @@
 -- Each branch is its choice.
 -- Assumes nothing.
 use Rattle.rules.specs.Choice.{pick}
-use Rattle.rules.specs.Floor.{cpuFloor}
+use Rattle.rules.specs.Floor.{cpu_floor}
 use Rattle.rules.proofs.Choice.{holds, fails}
 use borrow.Author.Rules.{rules}
 use Rattle.floor.proofs.cpu_floor.Statement.{statement}
@@ -11,14 +11,14 @@ is-valid-requires : tie.Need-is-valid-requires
 is-valid-requires c κs = search rules
 
 returns : tie.Need-returns
-unfolding cpuFloor pick
+unfolding cpu_floor pick
 returns c = simp (fails c.before.is-valid.ensures c.if1.true)
 
 all-shared-requires : tie.Need-all-shared-requires
 all-shared-requires c κs = search rules
 
 returns-2 : tie.Need-returns-2
-unfolding cpuFloor pick
+unfolding cpu_floor pick
 returns-2 c =
     simp (holds c.before.before.before.is-valid.ensures c.before.before.if1.false, fails c.before.all-shared.ensures c.if2.true)
 
@@ -26,7 +26,7 @@ floor-of-requires : tie.Need-floor-of-requires
 floor-of-requires c κs = search rules
 
 returns-3 : tie.Need-returns-3
-unfolding cpuFloor pick
+unfolding cpu_floor pick
 returns-3 c =
     simp (holds c.before.before.before.before.is-valid.ensures c.before.before.before.if1.false, holds c.before.before.all-shared.ensures c.before.if2.false, c.floor-of.ensures)
 

@@ -1,6 +1,6 @@
 -- The parts are those of the definition; 16 bits and one more fit 32.
 -- Assumes nothing.
-use Rattle.rules.specs.Floor.{floorOf}
+use Rattle.rules.specs.Floor.{floor_of}
 use borrow.Author.Rules.{rules}
 use Rattle.floor.proofs.floor_of.Statement.{statement}
 use Rattle.floor.proofs.floor_of.Tie as tie
@@ -21,7 +21,7 @@ add-result : tie.Need-overflow-add-result
 add-result c = search rules
 
 returns : tie.Need-returns
-unfolding floorOf
+unfolding floor_of
 returns c = simp (c.before.before.new-slot.ensures, c.before.slot_of.ensures, c.larger-of.ensures)
 
 pub floor-of-spec : {M : Type 1} → statement M

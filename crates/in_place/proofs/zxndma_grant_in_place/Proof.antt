@@ -41,7 +41,7 @@ use denote.Triple.Walked.{says, Stays, stay_ref, stay_none, gave_slice, walk_of,
 use denote.Exit.{yes}
 use Rattle.rules.specs.Buffers.{flat}
 use Rattle.rules.specs.Calls.{grant}
-use Rattle.zxndma.specs.Answers.{systemOf, grantAnswer}
+use Rattle.zxndma.specs.Answers.{system_of, grant_answer}
 use Rattle.zxndma.specs.declared.Device.{Device}
 use Rattle.zxndma.specs.declared.GrantAnswer.{GrantAnswer}
 use Rattle.zxndma.specs.contracts.GrantAnswer as N
@@ -50,7 +50,7 @@ use Rattle.zxndma.specs.contracts.Device.grant as g
 use Rattle.zxndma.proofs.Device.grant.Symbol as g-def
 use Rattle.zxndma.proofs.Device.grant.Symbol.{name as #g}
 use Rattle.zxndma.proofs.Device.grant.Met as g-thm
-use Rattle.in_place.proofs.Borrowed.{R, vals, seen, borrow, IsDevice, is-device, device-fits, had, local, opened, put_back, closed}
+use Rattle.in_place.proofs.Borrowed.{R, vals, seen, borrow, IsDevice, is_device, device_fits, had, local, opened, put_back, closed}
 use Rattle.in_place.specs.contracts.zxndma_grant_in_place.Key.{name as #f}
 use Rattle.in_place.specs.contracts.zxndma_grant_in_place as f
 use Rattle.in_place.proofs.zxndma_grant_in_place.Statement as stated
@@ -67,11 +67,11 @@ stayed = (
 
 -- what the call by value ensures of its answer and of the bytes that it leaves in the buffers
 abbrev Answers : Device → List ℕ → List ℕ → ℕ → GrantAnswer → List ℕ → List ℕ → Type 0
-Answers d m l n r m' l' = grantAnswer r m' l' ≡ grant flat (systemOf d m l) n
+Answers d m l n r m' l' = grant_answer r m' l' ≡ grant flat (system_of d m l) n
 
 -- what whoever has the answer knows of its parts
 device-is : (r : GrantAnswer) (v : Val) → Is N.the_row r (v ∷ []) → IsDevice r.device
-device-is r v is = is-device r.device _ (LL.owed N.the_type N'.the_laws r _ is).1.0
+device-is r v is = is_device r.device _ (LL.owed N.the_type N'.the_laws r _ is).1.0
 
 number_fits : (r : GrantAnswer) (v : Val) → Is N.the_row r (v ∷ []) → r.number < 2 ^ 8
 number_fits r v is = (LL.owed N.the_type N'.the_laws r _ is).0.1
@@ -148,7 +148,7 @@ module _ {M : Type 1} {𝓤 : Ura M} (𝓛 : Logic 𝓤) (mem'' : Memory → SPr
         opened ! tt h b o (λ was.
         -- [the device's cell; the open borrow; obs; auth; the slices' tokens; what is lent; _10 to _1, each with …; room for _0; …]
         assigns ! (of_opd ! (load ! (from ! (hop ! (look ! 24 refl) (stop !))) (look ! 0 refl))) (from ! (stop !))
-        (init ! 14 refl (device-fits 𝓛 h was)) $
+        (init ! 14 refl (device_fits 𝓛 h was)) $
         assigns ! (addr ! (from ! (fld ! refl (hop ! (look_in ! 22 (sub ! 0 refl (whole !))) (stop !))))) (from ! (stop !))
         (init ! 12 refl (tt, tt)) $
         assigns ! (agg ! (and_then ! (local ! 12 refl)

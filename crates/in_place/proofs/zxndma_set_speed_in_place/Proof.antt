@@ -37,8 +37,8 @@ use denote.Triple.Clauses.{ensured, lasts}
 use denote.Triple.Table.{entered, cited}
 use denote.Triple.Walked.{says, Stays, stay_ref, stay_none, walk_of, Goes-none, Goes-ref, Walks, ends_at, walked, walk_Meets}
 use denote.Exit.{yes}
-use Rattle.rules.specs.Calls.{speedReply}
-use Rattle.zxndma.specs.Answers.{speedAnswer}
+use Rattle.rules.specs.Calls.{speed_reply}
+use Rattle.zxndma.specs.Answers.{speed_answer}
 use Rattle.zxndma.specs.declared.Device.{Device}
 use Rattle.zxndma.specs.declared.SpeedAnswer.{SpeedAnswer}
 use Rattle.zxndma.specs.contracts.SpeedAnswer as N
@@ -47,7 +47,7 @@ use Rattle.zxndma.specs.contracts.Device.set_speed as g
 use Rattle.zxndma.proofs.Device.set_speed.Symbol as g-def
 use Rattle.zxndma.proofs.Device.set_speed.Symbol.{name as #g}
 use Rattle.zxndma.proofs.Device.set_speed.Met as g-thm
-use Rattle.in_place.proofs.Borrowed.{R, vals, seen, borrow, IsDevice, is-device, device-fits, had, local, opened, put_back, closed, leaves}
+use Rattle.in_place.proofs.Borrowed.{R, vals, seen, borrow, IsDevice, is_device, device_fits, had, local, opened, put_back, closed, leaves}
 use Rattle.in_place.specs.contracts.zxndma_set_speed_in_place.Key.{name as #f}
 use Rattle.in_place.specs.contracts.zxndma_set_speed_in_place as f
 use Rattle.in_place.proofs.zxndma_set_speed_in_place.Statement as stated
@@ -61,11 +61,11 @@ stayed = (stay_ref (0 ∷ []) tt (plain (λ _. R)), (stay_none (λ _. u8) yes, t
 
 -- what the call by value ensures of its answer
 abbrev Answers : Device → ℕ → SpeedAnswer → Type 0
-Answers d n r = r ≡ speedAnswer (speedReply d.core d.clocks n)
+Answers d n r = r ≡ speed_answer (speed_reply d.core d.clocks n)
 
 -- what whoever has the answer knows of its parts
 device-is : (r : SpeedAnswer) (v : Val) → Is N.the_row r (v ∷ []) → IsDevice r.device
-device-is r v is = is-device r.device _ (LL.owed N.the_type N'.the_laws r _ is).1.0
+device-is r v is = is_device r.device _ (LL.owed N.the_type N'.the_laws r _ is).1.0
 
 number_fits : (r : SpeedAnswer) (v : Val) → Is N.the_row r (v ∷ []) → r.number < 2 ^ 8
 number_fits r v is = (LL.owed N.the_type N'.the_laws r _ is).0.1
@@ -125,7 +125,7 @@ module _ {M : Type 1} {𝓤 : Ura M} (𝓛 : Logic 𝓤) (mem'' : Memory → SPr
         opened ! tt h b o (λ was.
         -- [the device's cell; the open borrow; obs; auth; true; code's; _4; …; _3; …; _2; …; _1; …; room for _0; …]
         assigns ! (of_opd ! (load ! (from ! (hop ! (look ! 12 refl) (stop !))) (look ! 0 refl))) (from ! (stop !))
-        (init ! 6 refl (device-fits 𝓛 h was)) $
+        (init ! 6 refl (device_fits 𝓛 h was)) $
         use0 𝓛 (raw ((ByValue 𝓛 mem'' run).pre to-value)) (asks was) $
         calls_at ! fm (ByValue 𝓛 mem'' run) known to-value
         (and_then ! (local ! 7 refl) (and_then ! (local ! 11 refl) (no_more !))) (λ v.

@@ -37,8 +37,8 @@ use denote.Triple.Clauses.{ensured, lasts}
 use denote.Triple.Table.{entered, cited}
 use denote.Triple.Walked.{says, Stays, stay_ref, stay_none, walk_of, Goes-none, Goes-ref, Walks, ends_at, walked, walk_Meets}
 use denote.Exit.{yes}
-use Rattle.rules.specs.Calls.{writeReply}
-use Rattle.zxndma.specs.Answers.{writeAnswer}
+use Rattle.rules.specs.Calls.{write_reply}
+use Rattle.zxndma.specs.Answers.{write_answer}
 use Rattle.zxndma.specs.declared.Device.{Device}
 use Rattle.zxndma.specs.declared.WriteAnswer.{WriteAnswer}
 use Rattle.zxndma.specs.contracts.WriteAnswer as N
@@ -50,7 +50,7 @@ use Rattle.zxndma.proofs.Device.write.Met as g-thm
 use Rattle.lent.specs.declared.Written.{Written as Beside}
 use Rattle.lent.specs.contracts.Written as S
 use Rattle.lent.proofs.Written.TheLaws as S'
-use Rattle.in_place.proofs.Borrowed.{R, vals, seen, borrow, IsDevice, is-device, device-fits, had, local, opened, put_back, closed, leaves}
+use Rattle.in_place.proofs.Borrowed.{R, vals, seen, borrow, IsDevice, is_device, device_fits, had, local, opened, put_back, closed, leaves}
 use Rattle.in_place.specs.contracts.zxndma_write_in_place.Key.{name as #f}
 use Rattle.in_place.specs.contracts.zxndma_write_in_place as f
 use Rattle.in_place.proofs.zxndma_write_in_place.Statement as stated
@@ -64,7 +64,7 @@ stayed = (stay_ref (0 ∷ []) tt (plain (λ _. R)), (stay_none (λ _. u16) yes, 
 
 -- what the call by value ensures of its answer
 abbrev Answers : Device → ℕ → ℕ → WriteAnswer → Type 0
-Answers d n m r = r ≡ writeAnswer (writeReply d.core d.clocks n m)
+Answers d n m r = r ≡ write_answer (write_reply d.core d.clocks n m)
 
 -- what is answered beside the device
 abbrev beside : WriteAnswer → Beside
@@ -72,7 +72,7 @@ beside r = record { number = r.number; warning = r.warning }
 
 -- what whoever has the answer knows of its parts
 device-is : (r : WriteAnswer) (v : Val) → Is N.the_row r (v ∷ []) → IsDevice r.device
-device-is r v is = is-device r.device _ (LL.owed N.the_type N'.the_laws r _ is).1.1.0
+device-is r v is = is_device r.device _ (LL.owed N.the_type N'.the_laws r _ is).1.1.0
 
 beside-is : (r : WriteAnswer) (v : Val) → Is N.the_row r (v ∷ []) → Is S.the_row (beside r) (S'.lowered (beside r) ∷ [])
 beside-is r v is =
@@ -135,7 +135,7 @@ module _ {M : Type 1} {𝓤 : Ura M} (𝓛 : Logic 𝓤) (mem'' : Memory → SPr
         opened ! tt h b o (λ was.
         -- [the device's cell; the open borrow; obs; auth; true; port's and byte's; _5; …; _4; …; _3; …; _2; …; _1; …; room for _0; …]
         assigns ! (of_opd ! (load ! (from ! (hop ! (look ! 14 refl) (stop !))) (look ! 0 refl))) (from ! (stop !))
-        (init ! 6 refl (device-fits 𝓛 h was)) $
+        (init ! 6 refl (device_fits 𝓛 h was)) $
         use0 𝓛 (raw ((ByValue 𝓛 mem'' run).pre to-value)) (asks was) $
         calls_at ! fm (ByValue 𝓛 mem'' run) known to-value
         (and_then ! (local ! 7 refl) (and_then ! (local ! 13 refl) (and_then ! (local ! 11 refl) (no_more !)))) (λ v.

@@ -13,7 +13,7 @@ use Rattle.lines.proofs.digit.Reads as digit
 use Rattle.lines.proofs.+put_decimal.Lts-put_decimal as lts
 use Rattle.lines.proofs.+put_decimal.{statement}
 use Rattle.lines.proofs.+put_decimal.Tie.{close}
-use Rattle.lines.proofs.Lines.{put-more, put_as, put-byte-as, put-none, decimal-small, decimal-more}
+use Rattle.lines.proofs.Lines.{put_more, put_as, put_byte_as, put_none, decimal_small, decimal_more}
 
 abbrev μ : Measures 1 kinds.ps ℕ
 μ κs a = a.0
@@ -25,7 +25,7 @@ abbrev below : ℕ → In 1 kinds.ps
 below t = and 1 kinds.ps (falls 1 kinds.ps ◌<◌ μ t) put_decimal.Pre
 
 returns : (t : ℕ) → lts.Need-returns (digit.Asked, digit.Learnt, putting.Asked, putting.Learnt, below t, put_decimal.Post) (at t) put_decimal.Post
-returns t c = (put-none _ _ _ _ c.if1.true, omega arith)
+returns t c = (put_none _ _ _ _ c.if1.true, omega arith)
 
 digit-requires : (t : ℕ) → lts.Need-digit-requires (digit.Asked, digit.Learnt, putting.Asked, putting.Learnt, below t, put_decimal.Post) (at t) put_decimal.Post
 digit-requires t c = λ _. c.if2.true
@@ -41,7 +41,7 @@ returns-2 t c =
     let put = c.before.before in
     let small = put .before .before .before in
     let some = pos_of_ne-zero small.before.if1.false in
-    (put_as (decimal-small _ _ some small.if2.true) (put-byte-as (put .before .before .digit .ensures) (put .put_byte .ensures)), omega (arith, some, put .put_byte .ensures .place))
+    (put_as (decimal_small _ _ some small.if2.true) (put_byte_as (put .before .before .digit .ensures) (put .put_byte .ensures)), omega (arith, some, put .put_byte .ensures .place))
 
 sub-put-decimal : (t : ℕ) → lts.Need-overflow-sub-put-decimal (digit.Asked, digit.Learnt, putting.Asked, putting.Learnt, below t, put_decimal.Post) (at t) put_decimal.Post
 sub-put-decimal t c = pos_of_ne-zero c.before.if1.false
@@ -70,7 +70,7 @@ returns-3 t c =
     let front = last.before.before.before.before.before in
     let more = front.before.before in
     let some = pos_of_ne-zero more.before.if1.false in
-    (put_as (decimal-more _ _ some more.if2.false) (put-more front.put-decimal.ensures.0 (put-byte-as last.before.before.digit2.ensures last.put-byte2.ensures)), omega (arith, some, front.put-decimal.ensures.1, last.put-byte2.ensures.place))
+    (put_as (decimal_more _ _ some more.if2.false) (put_more front.put-decimal.ensures.0 (put_byte_as last.before.before.digit2.ensures last.put-byte2.ensures)), omega (arith, some, front.put-decimal.ensures.1, last.put-byte2.ensures.place))
 
 pub +put-decimal-spec : {M : Type 1} → statement M
 +put-decimal-spec =

@@ -1,6 +1,6 @@
 -- Runs of bytes put one behind the other are their concatenation put.
 -- Assumes nothing.
-use Rattle.lines.proofs.Lines.{put-more}
+use Rattle.lines.proofs.Lines.{put_more}
 use borrow.Author.Rules.{rules}
 use Rattle.lines.proofs.counts_line.Statement.{statement}
 use Rattle.lines.proofs.counts_line.Tie as tie
@@ -25,8 +25,8 @@ returns c =
     let third = c.before.before.before.before.before.before in
     let second = third.before.before.before.before in
     let first = second.before.before.before.before in
-    put-more first.put_two.ensures
-    (put-more second.put-number.ensures.0 (put-more third.put-number2.ensures.0 c.before.before.put-number3.ensures.0))
+    put_more first.put_two.ensures
+    (put_more second.put-number.ensures.0 (put_more third.put-number2.ensures.0 c.before.before.put-number3.ensures.0))
 
 pub counts-line-spec : {M : Type 1} → statement M
 counts-line-spec =

@@ -1,7 +1,7 @@
 -- By the number, as the definition has it: a digit, or a letter.
 -- Assumes nothing.
 use Rattle.rules.specs.Choice.{pick}
-use Rattle.lines.specs.Lines.{hexDigit}
+use Rattle.lines.specs.Lines.{hex_digit}
 use borrow.Author.Tests.{lt-ltb, le-ltb}
 use borrow.Author.Rules.{rules}
 use Rattle.lines.proofs.hex_digit.Statement.{statement}
@@ -11,14 +11,14 @@ add-result : tie.Need-overflow-add-result
 add-result c = search rules
 
 returns : tie.Need-returns
-unfolding hexDigit pick
+unfolding hex_digit pick
 returns c = simp (lt-ltb _ _ c.if1.true)
 
 add-result-2 : tie.Need-overflow-add-result-2
 add-result-2 c = search rules
 
 returns-2 : tie.Need-returns-2
-unfolding hexDigit pick
+unfolding hex_digit pick
 returns-2 c = simp (le-ltb _ _ c.if1.false)
 
 pub hex-digit-spec : {M : Type 1} → statement M

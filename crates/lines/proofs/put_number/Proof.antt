@@ -1,7 +1,7 @@
 -- The byte is put behind the digits, of which there are at most 20.
 -- Assumes nothing.
 use native.Mathlib.Omega.{arith}
-use Rattle.lines.proofs.Lines.{put-more}
+use Rattle.lines.proofs.Lines.{put_more}
 use borrow.Author.Rules.{rules}
 use Rattle.lines.proofs.put_number.Statement.{statement}
 use Rattle.lines.proofs.put_number.Tie as tie
@@ -19,7 +19,7 @@ returns : tie.Need-returns
 returns c =
     let digits = c.before.before.before.before.before.before.put-decimal.ensures in
     let last = c.before.before.put_byte.ensures in
-    (put-more digits.0 last, omega (arith, digits.1, last.place))
+    (put_more digits.0 last, omega (arith, digits.1, last.place))
 
 pub put-number-spec : {M : Type 1} → statement M
 put-number-spec = tie.close (tie.spec put-decimal-requires put-byte-requires same_length returns)

@@ -2,8 +2,8 @@
 -- Assumes nothing.
 use mathlib.Core.Path.{ap}
 use Prim.Native.Nat.{ℕ}
-use Rattle.lines.specs.Lines.{numberThen}
-use Rattle.lines.proofs.Lines.{put-more, put_as}
+use Rattle.lines.specs.Lines.{number_then}
+use Rattle.lines.proofs.Lines.{put_more, put_as}
 use borrow.Author.Rules.{rules}
 use Rattle.lines.proofs.put_number_line.Statement.{statement}
 use Rattle.lines.proofs.put_number_line.Tie as tie
@@ -23,8 +23,8 @@ same_length c = search rules
 returns : tie.Need-returns
 returns c =
     let wide = c.before.before.before.before in
-    put-more wide.before.before.before.put_two.ensures
-    (put_as (ap (λ (n : ℕ). numberThen n 10) wide.wide.ensures) c.before.before.put-number.ensures.0)
+    put_more wide.before.before.before.put_two.ensures
+    (put_as (ap (λ (n : ℕ). number_then n 10) wide.wide.ensures) c.before.before.put-number.ensures.0)
 
 pub put-number-line-spec : {M : Type 1} → statement M
 put-number-line-spec =

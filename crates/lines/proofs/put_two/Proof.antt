@@ -1,6 +1,6 @@
 -- The second byte is put behind the first.
 -- Assumes nothing.
-use Rattle.lines.proofs.Lines.{put-more}
+use Rattle.lines.proofs.Lines.{put_more}
 use borrow.Author.Rules.{rules}
 use Rattle.lines.proofs.put_two.Statement.{statement}
 use Rattle.lines.proofs.put_two.Tie as tie
@@ -15,7 +15,7 @@ same_length : tie.Need-same-length
 same_length c = search rules
 
 returns : tie.Need-returns
-returns c = put-more c.before.before.before.before.before.before.put_byte.ensures c.before.before.put-byte2.ensures
+returns c = put_more c.before.before.before.before.before.before.put_byte.ensures c.before.before.put-byte2.ensures
 
 pub put-two-spec : {M : Type 1} → statement M
 put-two-spec = tie.close (tie.spec put-byte-requires put-byte-requires-2 same_length returns)

@@ -3,8 +3,8 @@
 -- Assumes nothing.
 use mathlib.Core.Path.{ap}
 use Prim.Native.Nat.{ℕ}
-use Rattle.lines.specs.Lines.{numberThen, writeLine}
-use Rattle.lines.proofs.Lines.{put-more, put_as}
+use Rattle.lines.specs.Lines.{number_then, write_line}
+use Rattle.lines.proofs.Lines.{put_more, put_as}
 use Rattle.rules.specs.Choice.{pick}
 use borrow.Author.Tests.{eq-eqb, ne_eqb}
 use borrow.Author.Rules.{rules}
@@ -18,7 +18,7 @@ same_length : tie.Need-same-length
 same_length c = search rules
 
 returns : tie.Need-returns
-unfolding writeLine pick
+unfolding write_line pick
 returns c = put_as (simp (eq-eqb _ _ c.before.before.before.before.if1.true)) c.before.before.put-number-line.ensures
 
 put-two-requires : tie.Need-put-two-requires
@@ -37,14 +37,14 @@ same-length-2 : tie.Need-same-length-2
 same-length-2 c = search rules
 
 returns-2 : tie.Need-returns-2
-unfolding writeLine pick
+unfolding write_line pick
 returns-2 c =
     let number = c.before.before.before.before.before.before in
     let wide = number.before.before in
     let first = wide.before.before.before in
     put_as (simp (ne_eqb _ _ first.before.before.if1.false))
-    (put-more first.put_two.ensures
-    (put-more (put_as (ap (λ (n : ℕ). numberThen n 32) wide.wide.ensures) number.put-number.ensures.0) c.before.before.put-two2.ensures))
+    (put_more first.put_two.ensures
+    (put_more (put_as (ap (λ (n : ℕ). number_then n 32) wide.wide.ensures) number.put-number.ensures.0) c.before.before.put-two2.ensures))
 
 pub put-write-line-spec : {M : Type 1} → statement M
 put-write-line-spec =

@@ -4,7 +4,7 @@
 use mathlib.Core.Path.{◌∙◌}
 use mathlib.Core.Logic.{⊎_elim}
 use borrow.Author.Rules.{rules}
-use Rattle.mask.proofs.Ahead.{found-ahead, found-behind, found_nowhere, found-at-7, found-beyond}
+use Rattle.mask.proofs.Ahead.{found_ahead, found_behind, found_nowhere, found_at_7, found_beyond}
 use Rattle.mask.proofs.first_register.Statement.{statement}
 use Rattle.mask.proofs.first_register.Tie as tie
 
@@ -17,7 +17,7 @@ lowest-requires c κs = search rules
 returns : tie.Need-returns
 returns c =
     c.lowest.ensures
-    ∙ found-ahead _ _ c.before.before.at_or_after.result (search rules) c.before.before.before.if1.true c.before.before.at_or_after.ensures c.before.if2.true
+    ∙ found_ahead _ _ c.before.before.at_or_after.result (search rules) c.before.before.before.if1.true c.before.before.at_or_after.ensures c.before.if2.true
 
 lowest-requires-2 : tie.Need-lowest-requires-2
 lowest-requires-2 c κs = search rules
@@ -25,7 +25,7 @@ lowest-requires-2 c κs = search rules
 returns-2 : tie.Need-returns-2
 returns-2 c =
     c.lowest2.ensures
-    ∙ found-behind _ _ c.before.before.before.at_or_after.result (search rules) c.before.before.before.before.if1.true c.before.before.before.at_or_after.ensures
+    ∙ found_behind _ _ c.before.before.before.at_or_after.result (search rules) c.before.before.before.before.if1.true c.before.before.before.at_or_after.ensures
     c.before.before.if2.false
     c.before.if3.true
 
@@ -36,7 +36,7 @@ returns-3 c =
     c.if3.false
 
 returns-4 : tie.Need-returns-4
-returns-4 c = found-at-7 _ _ (search rules) c.if5.true c.before.if4.true
+returns-4 c = found_at_7 _ _ (search rules) c.if5.true c.before.if4.true
 
 lowest-requires-3 : tie.Need-lowest-requires-3
 lowest-requires-3 c κs = search rules
@@ -44,7 +44,7 @@ lowest-requires-3 c κs = search rules
 returns-5 : tie.Need-returns-5
 returns-5 c =
     c.lowest3.ensures
-    ∙ found-beyond _ _ (search rules) c.before.before.if1.false
+    ∙ found_beyond _ _ (search rules) c.before.before.if1.false
     (λ seven. ⊎_elim (λ w. w.1.left) (λ w. absurd (w.left seven)) c.before.if4.branch)
 
 pub first-register-spec : {M : Type 1} → statement M

@@ -1,7 +1,7 @@
 -- By the length, as the definition has it; what is not too short has the two bytes of its address.
 -- Assumes nothing.
 use Rattle.rules.specs.Choice.{pick}
-use Rattle.records.specs.Records.{memoryRecord}
+use Rattle.records.specs.Records.{memory_record}
 use borrow.Author.Tests.{lt-ltb, le-ltb}
 use borrow.Author.Rules.{rules}
 use Rattle.records.proofs.memory_record.Statement.{statement}
@@ -11,14 +11,14 @@ no-record-requires : tie.Need-no-record-requires
 no-record-requires c κs = search rules
 
 returns : tie.Need-returns
-unfolding memoryRecord pick
+unfolding memory_record pick
 returns c = simp (lt-ltb _ _ c.before.if1.true, c.no_record.ensures)
 
 no-record-requires-2 : tie.Need-no-record-requires-2
 no-record-requires-2 c κs = search rules
 
 returns-2 : tie.Need-returns-2
-unfolding memoryRecord pick
+unfolding memory_record pick
 returns-2 c = simp (le-ltb _ _ c.before.before.if1.false, lt-ltb _ _ c.before.if2.true, c.no-record2.ensures)
 
 add-word-at : tie.Need-overflow-add-word-at
@@ -37,7 +37,7 @@ add-t8 : tie.Need-overflow-add-t8
 add-t8 c = search rules
 
 returns-3 : tie.Need-returns-3
-unfolding memoryRecord pick
+unfolding memory_record pick
 returns-3 c = simp (le-ltb _ _ c.before.before.if1.false, le-ltb _ _ c.before.if2.false, c.word_at.ensures)
 
 pub memory-record-spec : {M : Type 1} → statement M

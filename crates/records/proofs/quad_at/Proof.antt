@@ -1,6 +1,6 @@
 -- Two words, the high one first, each as its two bytes have it.
 -- Assumes nothing.
-use Rattle.records.proofs.BigEndian.{quad-words}
+use Rattle.records.proofs.BigEndian.{quad_words}
 use borrow.Author.Rules.{rules}
 use Rattle.records.proofs.quad_at.Statement.{statement}
 use Rattle.records.proofs.quad_at.Tie as tie
@@ -27,7 +27,7 @@ add-result : tie.Need-overflow-add-result
 add-result c = search rules
 
 returns : tie.Need-returns
-returns c = simp (c.before.before.before.word_at.ensures, c.before.before.widest.ensures.0, c.before.word-at2.ensures, c.widest2.ensures.0) (quad-words _ _)
+returns c = simp (c.before.before.before.word_at.ensures, c.before.before.widest.ensures.0, c.before.word-at2.ensures, c.widest2.ensures.0) (quad_words _ _)
 
 pub quad-at-spec : {M : Type 1} → statement M
 quad-at-spec =

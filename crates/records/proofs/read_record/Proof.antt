@@ -1,7 +1,7 @@
 -- By the length, as the definition has it; a record as long as a port read has the two bytes of its port.
 -- Assumes nothing.
 use Rattle.rules.specs.Choice.{pick}
-use Rattle.records.specs.Records.{readRecord}
+use Rattle.records.specs.Records.{read_record}
 use borrow.Author.Tests.{eq-eqb, ne_eqb}
 use borrow.Author.Rules.{rules}
 use Rattle.records.proofs.read_record.Statement.{statement}
@@ -17,14 +17,14 @@ add-t6 : tie.Need-overflow-add-t6
 add-t6 c = search rules
 
 returns : tie.Need-returns
-unfolding readRecord pick
+unfolding read_record pick
 returns c = simp (eq-eqb _ _ c.before.if1.true, c.word_at.ensures)
 
 no-record-requires : tie.Need-no-record-requires
 no-record-requires c κs = search rules
 
 returns-2 : tie.Need-returns-2
-unfolding readRecord pick
+unfolding read_record pick
 returns-2 c = simp (ne_eqb _ _ c.before.if1.false, c.no_record.ensures)
 
 pub read-record-spec : {M : Type 1} → statement M

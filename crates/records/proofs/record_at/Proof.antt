@@ -1,7 +1,7 @@
 -- By what is at hand, as the definition has it: the length is read where both of its bytes are, the kind where all bytes are.
 -- Assumes nothing.
 use Rattle.rules.specs.Choice.{pick}
-use Rattle.records.specs.Records.{recordAt}
+use Rattle.records.specs.Records.{record_at}
 use borrow.Author.Tests.{lt-ltb, lt-leb, le-leb, le-ltb, eq-eqb, ne_eqb}
 use borrow.Author.Rules.{rules}
 use Rattle.records.proofs.record_at.Statement.{statement}
@@ -11,7 +11,7 @@ behind-all-requires : tie.Need-behind-all-requires
 behind-all-requires c κs = search rules
 
 returns : tie.Need-returns
-unfolding recordAt pick
+unfolding record_at pick
 returns c = simp (le-leb _ _ c.before.if1.true, c.behind-all.ensures)
 
 add-if2 : tie.Need-overflow-add-if2
@@ -21,7 +21,7 @@ cut-short-requires : tie.Need-cut-short-requires
 cut-short-requires c κs = search rules
 
 returns-2 : tie.Need-returns-2
-unfolding recordAt pick
+unfolding record_at pick
 returns-2 c = simp (lt-leb _ _ c.before.before.if1.false, le-leb _ _ c.before.if2.true, c.cut_short.ensures)
 
 word-at-requires : tie.Need-word-at-requires
@@ -40,7 +40,7 @@ cut-short-requires-2 : tie.Need-cut-short-requires-2
 cut-short-requires-2 c κs = search rules
 
 returns-3 : tie.Need-returns-3
-unfolding recordAt pick
+unfolding record_at pick
 returns-3 c =
     let third = c.before in
     let second = third.before.before.before in
@@ -50,7 +50,7 @@ no-record-requires : tie.Need-no-record-requires
 no-record-requires c κs = search rules
 
 returns-4 : tie.Need-returns-4
-unfolding recordAt pick
+unfolding record_at pick
 returns-4 c =
     let third = c.before.before in
     let second = third.before.before.before in
@@ -66,7 +66,7 @@ of-kind-requires : tie.Need-of-kind-requires
 of-kind-requires c κs = search rules
 
 returns-5 : tie.Need-returns-5
-unfolding recordAt pick
+unfolding record_at pick
 returns-5 c =
     let third = c.before.before.before in
     let second = third.before.before.before in

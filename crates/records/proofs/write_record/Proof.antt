@@ -1,7 +1,7 @@
 -- By the length, as the definition has it; a record as long as a port write has its port and its byte.
 -- Assumes nothing.
 use Rattle.rules.specs.Choice.{pick}
-use Rattle.records.specs.Records.{writeRecord}
+use Rattle.records.specs.Records.{write_record}
 use borrow.Author.Tests.{eq-eqb, ne_eqb}
 use borrow.Author.Rules.{rules}
 use Rattle.records.proofs.write_record.Statement.{statement}
@@ -23,14 +23,14 @@ add-t7 : tie.Need-overflow-add-t7
 add-t7 c = search rules
 
 returns : tie.Need-returns
-unfolding writeRecord pick
+unfolding write_record pick
 returns c = simp (eq-eqb _ _ c.before.before.if1.true, c.before.word_at.ensures)
 
 no-record-requires : tie.Need-no-record-requires
 no-record-requires c κs = search rules
 
 returns-2 : tie.Need-returns-2
-unfolding writeRecord pick
+unfolding write_record pick
 returns-2 c = simp (ne_eqb _ _ c.before.if1.false, c.no_record.ensures)
 
 pub write-record-spec : {M : Type 1} → statement M

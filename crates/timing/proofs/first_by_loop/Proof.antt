@@ -1,7 +1,7 @@
 -- The invariant: what is left of the search gives the register that the whole search gives. The measure is the number of
 -- places left.
 -- Assumes nothing.
-use Rattle.rules.proofs.Reading.{seek-end, seek-here, seek-on}
+use Rattle.rules.proofs.Reading.{seek_end, seek_here, seek_on}
 use Rattle.rules.specs.Readback.{seek, chosen}
 use Rattle.std.proofs.Common.{◌≡◌, sym, refl, ◌∙◌, arith, rules}
 use Rattle.timing.proofs.first_by_loop.Statement.{statement}
@@ -30,14 +30,14 @@ loop-less c = omega (arith, c.before.before.before.if1.false)
 
 loop-again : tie.Need-loop-preserved invariant-loop decreases-loop
 loop-again c = rw c.next-register.ensures
-    (sym (seek-on _ _ _ c.before.before.before.if1.false (sym c.before.before.in-mask.ensures ∙ c.before.if2.false))
+    (sym (seek_on _ _ _ c.before.before.before.if1.false (sym c.before.before.in-mask.ensures ∙ c.before.if2.false))
     ∙ c.before.before.before.before.loop.invariant)
 
 returns : tie.Need-returns invariant-loop decreases-loop
-returns c = sym (seek-end _ _ _ c.if1.true) ∙ c.before.loop.invariant
+returns c = sym (seek_end _ _ _ c.if1.true) ∙ c.before.loop.invariant
 
 returns-2 : tie.Need-returns-2 invariant-loop decreases-loop
-returns-2 c = sym (seek-here _ _ _ (sym c.before.in-mask.ensures ∙ c.if2.true)) ∙ c.before.before.before.loop.invariant
+returns-2 c = sym (seek_here _ _ _ (sym c.before.in-mask.ensures ∙ c.if2.true)) ∙ c.before.before.before.loop.invariant
 
 pub first-by-loop-spec : {M : Type 1} → statement M
 first-by-loop-spec =

@@ -1,12 +1,12 @@
 -- Above bit 7 there is none; below it the shift is the division by the power of 2.
 -- Assumes nothing.
-use Rattle.rules.proofs.Bytes.{bit-above}
+use Rattle.rules.proofs.Bytes.{bit_above}
 use Rattle.std.proofs.Common.{sym, rules}
 use Rattle.timing.proofs.in_mask.Statement.{statement}
 use Rattle.timing.proofs.in_mask.Tie as tie
 
 returns : tie.Need-returns
-returns c = sym (bit-above _ _ c.if1.true (search rules))
+returns c = sym (bit_above _ _ c.if1.true (search rules))
 
 shr-result : tie.Need-overflow-shr-result
 shr-result c = search rules

@@ -1,7 +1,7 @@
 -- The bus time is counted first, then the wait.
 -- Assumes nothing.
-use Rattle.rules.specs.Clock.{busClock}
-use Rattle.rules.proofs.Spans.{kind-of-code}
+use Rattle.rules.specs.Clock.{bus_clock}
+use Rattle.rules.proofs.Spans.{kind_of_code}
 use borrow.Author.Rules.{rules}
 use Rattle.clocking.proofs.slots.count_slots.Statement.{statement}
 use Rattle.clocking.proofs.slots.count_slots.Tie as tie
@@ -34,8 +34,8 @@ returns c =
       at-kind.before.times2.ensures,
       at-kind.before.before.wait-of.ensures,
       at-kind.before.before.before.times.ensures,
-      kind-of-code,
-      kind-of-code busClock,
+      kind_of_code,
+      kind_of_code bus_clock,
     )
 
 pub count-slots-spec : {M : Type 1} → statement M

@@ -5,7 +5,7 @@ use native.Mathlib.Omega.{arith}
 use mathlib.Core.Path.{◌≡◌}
 use borrow.Author.Rules.{rules}
 use Rattle.rules.specs.Ports.{stride}
-use Rattle.clocking.proofs.WholeSlots.{Carrying, carrying-start, carrying-more, carrying-end, carrying-lengths}
+use Rattle.clocking.proofs.WholeSlots.{Carrying, carrying_start, carrying_more, carrying_end, carrying_lengths}
 use Rattle.clocking.proofs.slots.move_bytes.Statement.{statement}
 use Rattle.clocking.proofs.slots.move_bytes.Tie as tie
 
@@ -22,7 +22,7 @@ stride-requires-2 : tie.Need-stride-requires-2 invariant-loop decreases-loop
 stride-requires-2 c κs = search rules
 
 loop-holds : tie.Need-loop-init invariant-loop decreases-loop
-loop-holds c = (carrying-start _ _ _ _ (search rules) (search rules) (search rules), c.before.stride.ensures, c.stride2.ensures)
+loop-holds c = (carrying_start _ _ _ _ (search rules) (search rules) (search rules), c.before.stride.ensures, c.stride2.ensures)
 
 place-in-requires : tie.Need-place-in-requires invariant-loop decreases-loop
 place-in-requires c κs = search rules
@@ -54,7 +54,7 @@ loop-again c =
     let at_from = at-to.before in
     let at_test = at_from.before in
     let inv = at_test.before.loop.invariant in (
-      carrying-more
+      carrying_more
           inv.0
           at_test.loop-test.true
           inv.1
@@ -69,13 +69,13 @@ loop-again c =
     )
 
 same_length : tie.Need-same-length invariant-loop decreases-loop
-same_length c = (carrying-lengths c.before.loop.invariant.0).memory
+same_length c = (carrying_lengths c.before.loop.invariant.0).memory
 
 same-length-2 : tie.Need-same-length-2 invariant-loop decreases-loop
-same-length-2 c = (carrying-lengths c.before.loop.invariant.0).latches
+same-length-2 c = (carrying_lengths c.before.loop.invariant.0).latches
 
 returns : tie.Need-returns invariant-loop decreases-loop
-returns c = carrying-end c.before.loop.invariant.0 c.loop-test.false
+returns c = carrying_end c.before.loop.invariant.0 c.loop-test.false
 
 pub move-bytes-spec : {M : Type 1} → statement M
 move-bytes-spec =

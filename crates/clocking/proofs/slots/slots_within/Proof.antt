@@ -1,8 +1,8 @@
 -- At the start of a slot the length is not 0.
 -- Assumes nothing.
 use Rattle.rules.specs.Choice.{pick}
-use Rattle.rules.specs.WholeSlots.{slotsWithin}
-use Rattle.clocking.proofs.WholeSlots.{length_some, slots-at-start}
+use Rattle.rules.specs.WholeSlots.{slots_within}
+use Rattle.clocking.proofs.WholeSlots.{length_some, slots_at_start}
 use borrow.Author.Rules.{rules}
 use Rattle.clocking.proofs.slots.slots_within.Statement.{statement}
 use Rattle.clocking.proofs.slots.slots_within.Tie as tie
@@ -31,7 +31,7 @@ returns : tie.Need-returns
 returns c =
     let at_left = c.before in
     let at_slot = at_left.before.before.before in
-    slots-at-start _
+    slots_at_start _
     at_slot.before.before.at-slot-start.ensures
     at_slot.before.if1.true
     _
@@ -40,7 +40,7 @@ returns c =
     c.least.ensures
 
 returns-2 : tie.Need-returns-2
-unfolding pick slotsWithin
+unfolding pick slots_within
 returns-2 c = simp (c.if1.false, ← c.before.at-slot-start.ensures)
 
 pub slots-within-spec : {M : Type 1} → statement M

@@ -2,7 +2,7 @@
 -- Assumes nothing.
 use native.Mathlib.Omega.{arith}
 use mathlib.Core.Path.{refl}
-use Rattle.clocking.proofs.Spans.{last_fits, slot-answers}
+use Rattle.clocking.proofs.Spans.{last_fits, slot_answers}
 use borrow.Author.Rules.{rules}
 use Rattle.clocking.proofs.span.slot_span.Statement.{statement}
 use Rattle.clocking.proofs.span.slot_span.Tie as tie
@@ -39,7 +39,7 @@ returns c =
     let at_slot = at_least_lem.before.before in
     let at-to = at_slot.before in
     let at_from = at-to.before in
-    slot-answers
+    slot_answers
     at_from.before.requires
     at_slot.slot_of.ensures
     at_least_lem.before.stretch-rest.ensures

@@ -1,6 +1,6 @@
 -- Each branch is its choice.
 -- Assumes nothing.
-use Rattle.rules.specs.Stretches.{slotRest}
+use Rattle.rules.specs.Stretches.{slot_rest}
 use Rattle.rules.specs.Choice.{pick}
 use borrow.Author.Tests.{lt-ltb, le-ltb}
 use borrow.Author.Rules.{rules}
@@ -14,11 +14,11 @@ cast-result : tie.Need-overflow-cast-result
 cast-result c = search rules
 
 returns : tie.Need-returns
-unfolding pick slotRest
+unfolding pick slot_rest
 returns c = simp (lt-ltb _ _ c.before.if1.true)
 
 returns-2 : tie.Need-returns-2
-unfolding pick slotRest
+unfolding pick slot_rest
 returns-2 c = simp (le-ltb _ _ c.if1.false)
 
 pub slot-rest-spec : {M : Type 1} → statement M

@@ -1,6 +1,6 @@
 -- Each branch is its choice.
 -- Assumes nothing.
-use Rattle.rules.specs.Stretches.{stretchRest}
+use Rattle.rules.specs.Stretches.{stretch_rest}
 use Rattle.rules.specs.Choice.{pick}
 use borrow.Author.Tests.{lt-ltb, le-ltb}
 use borrow.Author.Rules.{rules}
@@ -20,11 +20,11 @@ least-requires : tie.Need-least-requires
 least-requires c κs = search rules
 
 returns : tie.Need-returns
-unfolding pick stretchRest
+unfolding pick stretch_rest
 returns c = simp (lt-ltb _ _ c.before.before.if1.true, ← c.before.before.before.before.slot-rest.ensures, ← c.least.ensures)
 
 returns-2 : tie.Need-returns-2
-unfolding pick stretchRest
+unfolding pick stretch_rest
 returns-2 c = simp (le-ltb _ _ c.if1.false, ← c.before.before.slot-rest.ensures)
 
 pub stretch-rest-spec : {M : Type 1} → statement M

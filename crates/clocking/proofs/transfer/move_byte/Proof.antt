@@ -1,6 +1,6 @@
 -- A byte that was stored is a byte that moved.
 -- Assumes nothing.
-use Rattle.clocking.proofs.Buffers.{moved-latch, moved-byte}
+use Rattle.clocking.proofs.Buffers.{moved_latch, moved_byte}
 use borrow.Author.Rules.{rules}
 use Rattle.clocking.proofs.transfer.move_byte.Statement.{statement}
 use Rattle.clocking.proofs.transfer.move_byte.Tie as tie
@@ -25,7 +25,7 @@ returns c =
     let at-put = c.before.before in
     let at_load = at-put.before.before.before.before in
     let args = at_load.before.before.before.before.before.args in
-    moved-latch args.memory.now args.latches.now args.from args.to
+    moved_latch args.memory.now args.latches.now args.from args.to
     at_load.load.ensures
     at-put.before.before.if1.true
     at-put.put.ensures
@@ -44,7 +44,7 @@ returns-2 c =
     let at-put = c.before.before in
     let at_load = at-put.before.before.before.before in
     let args = at_load.before.before.before.before.before.args in
-    moved-byte args.memory.now args.latches.now args.from args.to
+    moved_byte args.memory.now args.latches.now args.from args.to
     at_load.load.ensures
     at-put.before.before.if1.false
     at-put.put2.ensures

@@ -1,8 +1,8 @@
 -- The factor times the sum of both cycles, which fits 16 bits since a factor is at most 8.
 -- Assumes nothing.
 use Rattle.std.proofs.Common.{rules}
-use Rattle.rules.specs.Slots.{busTimeOf}
-use Rattle.rules.proofs.Speed.{factor-most, bus-fits}
+use Rattle.rules.specs.Slots.{bus_time_of}
+use Rattle.rules.proofs.Speed.{factor_most, bus_fits}
 use Rattle.parts.proofs.slot.bus_time.Statement.{statement}
 use Rattle.parts.proofs.slot.bus_time.Tie as tie
 
@@ -20,10 +20,10 @@ add-result c = search rules
 
 mul-result : tie.Need-overflow-mul-result
 mul-result c =
-    record { fits = bus-fits (rw c.before.before.factor-of.ensures (factor-most _)) (search rules) (search rules) }
+    record { fits = bus_fits (rw c.before.before.factor-of.ensures (factor_most _)) (search rules) (search rules) }
 
 returns : tie.Need-returns
-unfolding busTimeOf
+unfolding bus_time_of
 returns c = simp c.before.before.factor-of.ensures
 
 pub bus-time-spec : {M : Type 1} → statement M

@@ -1,7 +1,7 @@
 -- The calls one after the other are the definition.
 -- Assumes nothing.
 use borrow.Author.Rules.{rules}
-use Rattle.rules.specs.Registers.{effectOver}
+use Rattle.rules.specs.Registers.{effect_over}
 use Rattle.registers.proofs.register.take_effect.Statement.{statement}
 use Rattle.registers.proofs.register.take_effect.Tie as tie
 
@@ -21,7 +21,7 @@ with-pending-requires : tie.Need-with-pending-requires
 with-pending-requires c κs = search rules
 
 returns : tie.Need-returns
-unfolding effectOver
+unfolding effect_over
 returns c =
     simp (c.before.before.before.before.next_of.ensures, c.before.before.before.after.ensures, c.before.before.of.ensures, c.before.carry-out.ensures, c.with-pending.ensures)
 

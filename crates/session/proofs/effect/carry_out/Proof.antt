@@ -1,6 +1,6 @@
 -- Each kind of record is an entry, and the entry's effect is the call's own answer.
 -- Assumes nothing.
-use Rattle.session.proofs.Effects.{carried-write, carried-read, carried-grant, carried-memory, carried_none}
+use Rattle.session.proofs.Effects.{carried_write, carried_read, carried_grant, carried_memory, carried_none}
 use Rattle.std.proofs.Common.{rules}
 use Rattle.session.proofs.effect.carry_out.Statement.{statement}
 use Rattle.session.proofs.effect.carry_out.Tie as tie
@@ -9,13 +9,13 @@ write-requires : tie.Need-write-requires
 write-requires c κs = search rules
 
 returns : tie.Need-returns
-returns c = carried-write _ _ _ _ _ _ c.before.before.if1.true c.before.write.ensures
+returns c = carried_write _ _ _ _ _ _ c.before.before.if1.true c.before.write.ensures
 
 read-requires : tie.Need-read-requires
 read-requires c κs = search rules
 
 returns-2 : tie.Need-returns-2
-returns-2 c = carried-read _ _ _ _ _ _ c.before.before.before.before.if1.false c.before.before.if2.true c.before.read.ensures
+returns-2 c = carried_read _ _ _ _ _ _ c.before.before.before.before.if1.false c.before.before.if2.true c.before.read.ensures
 
 grant-requires : tie.Need-grant-requires
 grant-requires c κs = search rules
@@ -30,7 +30,7 @@ returns-3 : tie.Need-returns-3
 returns-3 c =
     let grant = c.before.before.before.before.before in
     let third = grant.before.before.before in
-    carried-grant _ _ _ _ _ _ _ _ third.before.before.before.before.if1.false third.before.before.if2.false third.if3.true grant.grant.ensures
+    carried_grant _ _ _ _ _ _ _ _ third.before.before.before.before.if1.false third.before.before.if2.false third.if3.true grant.grant.ensures
 
 poke-requires : tie.Need-poke-requires
 poke-requires c κs = search rules
@@ -42,7 +42,7 @@ returns-4 : tie.Need-returns-4
 returns-4 c =
     let fourth = c.before.before.before.before in
     let third = fourth.before.before in
-    carried-memory _ _ _ _ _ _
+    carried_memory _ _ _ _ _ _
     (record { write = third.before.before.before.before.if1.false; read = third.before.before.if2.false; grant = third.if3.false })
     fourth.if4.true
     c.before.before.poke.ensures

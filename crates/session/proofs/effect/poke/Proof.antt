@@ -2,7 +2,7 @@
 -- what all of them make of the memory as it was.
 -- Assumes nothing.
 use Rattle.std.proofs.Common.{◌-◌, arith, rules}
-use Rattle.session.proofs.Effects.{Poking, poking-start, poking-more, poking-end}
+use Rattle.session.proofs.Effects.{Poking, poking_start, poking_more, poking_end}
 use Rattle.session.proofs.effect.poke.Statement.{statement}
 use Rattle.session.proofs.effect.poke.Tie as tie
 
@@ -13,7 +13,7 @@ abbrev decreases-loop : tie.decreases-loop
 decreases-loop input start end memory₀ address at₀ to₀ memory at to = end - at
 
 loop-holds : tie.Need-loop-init invariant-loop decreases-loop
-loop-holds c = poking-start _ _ _ _ _
+loop-holds c = poking_start _ _ _ _ _
 
 byte-at-requires : tie.Need-byte-at-requires invariant-loop decreases-loop
 byte-at-requires c κs = search rules
@@ -37,13 +37,13 @@ loop-again : tie.Need-loop-preserved invariant-loop decreases-loop
 loop-again c =
     let put = c.before.before.before in
     let read = put.before.before.before in
-    poking-more read.before.before.loop.invariant read.before.loop-test.true read.byte_at.ensures put.before.index.ensures.0 put.put.ensures c.wrapping-add-u16.ensures
+    poking_more read.before.before.loop.invariant read.before.loop-test.true read.byte_at.ensures put.before.index.ensures.0 put.put.ensures c.wrapping-add-u16.ensures
 
 same_length : tie.Need-same-length invariant-loop decreases-loop
 same_length c = c.before.loop.invariant.size
 
 returns : tie.Need-returns invariant-loop decreases-loop
-returns c = poking-end c.before.loop.invariant c.loop-test.false
+returns c = poking_end c.before.loop.invariant c.loop-test.false
 
 pub poke_spec : {M : Type 1} → statement M
 poke_spec =

@@ -1,7 +1,7 @@
 -- By what stands at the place, as the definition has it: the tests are the same, and each case has its function.
 -- Assumes nothing.
 use Rattle.rules.specs.Choice.{pick}
-use Rattle.session.specs.Steps.{byRecord}
+use Rattle.session.specs.Steps.{by_record}
 use Rattle.std.proofs.Common.{rules, eq-eqb, ne_eqb, le-leb}
 use borrow.Author.Tests.{lt-leb}
 use Rattle.session.proofs.step.by_record.Statement.{statement}
@@ -11,7 +11,7 @@ say-nothing-requires : tie.Need-say-nothing-requires
 say-nothing-requires c κs = search rules
 
 returns : tie.Need-returns
-unfolding byRecord pick
+unfolding by_record pick
 returns c = simp (eq-eqb _ _ c.before.if1.true, c.say-nothing.ensures)
 
 say-counts-requires : tie.Need-say-counts-requires
@@ -21,7 +21,7 @@ same_length : tie.Need-same-length
 same_length c = search rules
 
 returns-2 : tie.Need-returns-2
-unfolding byRecord pick
+unfolding by_record pick
 returns-2 c = simp (ne_eqb _ _ c.before.before.before.before.before.before.if1.false, eq-eqb _ _ c.before.before.before.before.if2.true, c.before.before.say-counts.ensures)
 
 say-fault-requires : tie.Need-say-fault-requires
@@ -31,7 +31,7 @@ same-length-2 : tie.Need-same-length-2
 same-length-2 c = search rules
 
 returns-3 : tie.Need-returns-3
-unfolding byRecord pick
+unfolding by_record pick
 returns-3 c = simp (ne_eqb _ _ c.before.before.before.before.before.before.before.before.if1.false, ne_eqb _ _ c.before.before.before.before.before.before.if2.false, le-leb _ _ c.before.before.before.before.if3.true, c.before.before.say-fault.ensures)
 
 carry-requires : tie.Need-carry-requires
@@ -47,7 +47,7 @@ same-length-5 : tie.Need-same-length-5
 same-length-5 c = search rules
 
 returns-4 : tie.Need-returns-4
-unfolding byRecord pick
+unfolding by_record pick
 returns-4 c =
     let done = c.before.before.before.before.before.before in
     let third = done.before.before.before.before in

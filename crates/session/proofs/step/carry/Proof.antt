@@ -1,6 +1,6 @@
 -- The record's effect, and the line of what it was answered.
 -- Assumes nothing.
-use Rattle.session.proofs.Steps.{carried-put}
+use Rattle.session.proofs.Steps.{carried_put}
 use Rattle.std.proofs.Common.{rules}
 use Rattle.session.proofs.step.carry.Statement.{statement}
 use Rattle.session.proofs.step.carry.Tie as tie
@@ -28,7 +28,7 @@ returns c =
     let put = c.before.before.before.before in
     let done = put.before.before.before.before.before.before in
     let start = done.before.before.before.before.before.before.before in
-    carried-put start.args.found done.carry-out.result done.carry-out.ensures start.requires put.put-record-line.ensures
+    carried_put start.args.found done.carry-out.result done.carry-out.ensures start.requires put.put-record-line.ensures
     c.in-phase.ensures
 
 pub carry-spec : {M : Type 1} → statement M

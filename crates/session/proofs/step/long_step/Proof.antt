@@ -1,7 +1,7 @@
 -- By the bytes at hand and whether more come, as the definition has it; where not all are there, the difference is left.
 -- Assumes nothing.
 use Rattle.rules.specs.Choice.{pick}
-use Rattle.session.specs.Steps.{longStep}
+use Rattle.session.specs.Steps.{long_step}
 use Rattle.std.proofs.Common.{rules, le-leb}
 use borrow.Author.Tests.{lt-leb}
 use Rattle.session.proofs.step.long_step.Statement.{statement}
@@ -20,7 +20,7 @@ same_length : tie.Need-same-length
 same_length c = search rules
 
 returns : tie.Need-returns
-unfolding longStep pick
+unfolding long_step pick
 returns c = simp (le-leb _ _ c.before.before.before.before.if1.true, ← c.before.before.before.before.before.rest_of.ensures, c.before.before.say-fault.ensures) (search rules)
 
 add-say-fault-2 : tie.Need-overflow-add-say-fault-2
@@ -33,7 +33,7 @@ same-length-2 : tie.Need-same-length-2
 same-length-2 c = search rules
 
 returns-2 : tie.Need-returns-2
-unfolding longStep pick
+unfolding long_step pick
 returns-2 c = simp (lt-leb _ _ c.before.before.before.before.before.if1.false, c.before.before.before.before.if2.true, ← c.before.before.before.before.before.before.rest_of.ensures, c.before.before.say-fault2.ensures) (search rules)
 
 sub-in-phase : tie.Need-overflow-sub-in-phase
@@ -49,7 +49,7 @@ say-nothing-requires : tie.Need-say-nothing-requires
 say-nothing-requires c κs = search rules
 
 returns-3 : tie.Need-returns-3
-unfolding longStep pick
+unfolding long_step pick
 returns-3 c = simp (lt-leb _ _ c.before.before.before.if1.false, c.before.before.if2.false, ← c.before.before.before.before.rest_of.ensures, c.before.in-phase.ensures, c.say-nothing.ensures) (search rules)
 
 pub long-step-spec : {M : Type 1} → statement M

@@ -1,9 +1,9 @@
 -- A length that is too long is there in whole, so that the place behind it can be counted.
 -- Assumes nothing.
 use Rattle.rules.specs.Choice.{pick}
-use Rattle.session.specs.Steps.{recordStep}
+use Rattle.session.specs.Steps.{record_step}
 use Rattle.std.proofs.Common.{◌∙◌, arith, rules, eq-eqb, ne_eqb}
-use Rattle.records.proofs.Standing.{long-there}
+use Rattle.records.proofs.Standing.{long_there}
 use Rattle.session.proofs.step.record_step.Statement.{statement}
 use Rattle.session.proofs.step.record_step.Tie as tie
 
@@ -26,7 +26,7 @@ same-length-3 : tie.Need-same-length-3
 same-length-3 c = search rules
 
 returns : tie.Need-returns
-unfolding recordStep pick
+unfolding record_step pick
 returns c =
     let done = c.before.before.before.before.before.before in
     let found = done.before.before.before.before in
@@ -39,13 +39,13 @@ add-say-nothing : tie.Need-overflow-add-say-nothing
 add-say-nothing c =
     let long = c.before.before.before in
     let start = long.before.before.before.before.before in
-    omega (arith, long-there start.args.input.now start.args.place (λ e. c.before.before.if1.false (long.long-length.ensures ∙ e)))
+    omega (arith, long_there start.args.input.now start.args.place (λ e. c.before.before.if1.false (long.long-length.ensures ∙ e)))
 
 say-nothing-requires : tie.Need-say-nothing-requires
 say-nothing-requires c κs = search rules
 
 returns-2 : tie.Need-returns-2
-unfolding recordStep pick
+unfolding record_step pick
 returns-2 c = simp (ne_eqb _ _ c.before.before.before.if1.false, ← c.before.before.before.before.long-length.ensures, c.before.in-phase.ensures, c.say-nothing.ensures)
 
 pub record-step-spec : {M : Type 1} → statement M

@@ -1,6 +1,6 @@
 -- What was put is the line, and its length the place behind it.
 -- Assumes nothing.
-use Rattle.session.proofs.Steps.{spoken-put}
+use Rattle.session.proofs.Steps.{spoken_put}
 use Rattle.std.proofs.Common.{rules}
 use Rattle.session.proofs.step.say_fault.Statement.{statement}
 use Rattle.session.proofs.step.say_fault.Tie as tie
@@ -15,7 +15,7 @@ same_length : tie.Need-same-length
 same_length c = search rules
 
 returns : tie.Need-returns
-returns c = spoken-put _ _ _ (search rules) c.before.before.before.put-fault-line.ensures c.in-phase.ensures
+returns c = spoken_put _ _ _ (search rules) c.before.before.before.put-fault-line.ensures c.in-phase.ensures
 
 pub say-fault-spec : {M : Type 1} → statement M
 say-fault-spec = tie.close (tie.spec put-fault-line-requires in-phase-requires same_length returns)

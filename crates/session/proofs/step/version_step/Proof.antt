@@ -1,7 +1,7 @@
 -- By the bytes at hand and the version byte, as the definition has it.
 -- Assumes nothing.
 use Rattle.rules.specs.Choice.{pick}
-use Rattle.session.specs.Steps.{versionStep}
+use Rattle.session.specs.Steps.{version_step}
 use Rattle.std.proofs.Common.{rules, eq-eqb, ne_eqb, le-leb}
 use borrow.Author.Tests.{lt-leb}
 use Rattle.session.proofs.step.version_step.Statement.{statement}
@@ -14,14 +14,14 @@ same_length : tie.Need-same-length
 same_length c = search rules
 
 returns : tie.Need-returns
-unfolding versionStep pick
+unfolding version_step pick
 returns c = simp (le-leb _ _ c.before.before.before.before.before.if1.true, c.before.before.before.before.if2.true, c.before.before.say-fault.ensures)
 
 say-nothing-requires : tie.Need-say-nothing-requires
 say-nothing-requires c κs = search rules
 
 returns-2 : tie.Need-returns-2
-unfolding versionStep pick
+unfolding version_step pick
 returns-2 c = simp (le-leb _ _ c.before.before.if1.true, c.before.if2.false, c.say-nothing.ensures)
 
 shared-slice-read-if3 : tie.Need-shared-slice-read-if3
@@ -37,7 +37,7 @@ say-nothing-requires-2 : tie.Need-say-nothing-requires-2
 say-nothing-requires-2 c κs = search rules
 
 returns-3 : tie.Need-returns-3
-unfolding versionStep pick
+unfolding version_step pick
 returns-3 c = simp (lt-leb _ _ c.before.before.before.before.if1.false, eq-eqb _ _ c.before.before.if3.true, c.before.in-phase.ensures, c.say-nothing2.ensures)
 
 add-say-fault : tie.Need-overflow-add-say-fault
@@ -50,7 +50,7 @@ same-length-2 : tie.Need-same-length-2
 same-length-2 c = search rules
 
 returns-4 : tie.Need-returns-4
-unfolding versionStep pick
+unfolding version_step pick
 returns-4 c = simp (lt-leb _ _ c.before.before.before.before.before.before.if1.false, ne_eqb _ _ c.before.before.before.before.if3.false, c.before.before.say-fault2.ensures)
 
 pub version-step-spec : {M : Type 1} → statement M

@@ -1,8 +1,8 @@
 -- The run is as many slots as the definition says, and its parts are put together as the definition puts them.
 -- Assumes nothing.
 use native.Mathlib.Omega.{arith}
-use Rattle.rules.proofs.Turns.{ready-counter}
-use Rattle.zxndma.proofs.Turns.{slots-fit, slots-put, slots-left}
+use Rattle.rules.proofs.Turns.{ready_counter}
+use Rattle.zxndma.proofs.Turns.{slots_fit, slots_put, slots_left}
 use borrow.Author.Rules.{rules}
 use Rattle.zxndma.proofs.Device.pass_slots.Statement.{statement}
 use Rattle.zxndma.proofs.Device.pass_slots.Tie as tie
@@ -16,17 +16,17 @@ clocks-of-requires c κs = search rules
 cast-rest : tie.Need-overflow-cast-rest
 cast-rest c =
     let start = c.before.before.before.before.before.before.requires in
-    omega (arith, slots-fit start.0 start.1 start.2 c.before.new-slot.ensures c.clocks-of.ensures)
+    omega (arith, slots_fit start.0 start.1 start.2 c.before.new-slot.ensures c.clocks-of.ensures)
 
 sub-rest : tie.Need-overflow-sub-rest
 sub-rest c =
     let start = c.before.before.before.before.before.before.requires in
-    slots-fit start.0 start.1 start.2 c.before.new-slot.ensures c.clocks-of.ensures
+    slots_fit start.0 start.1 start.2 c.before.new-slot.ensures c.clocks-of.ensures
 
 add-counter : tie.Need-overflow-add-counter
 add-counter c =
     let start = c.before.before.before.before.before.before.before.requires in
-    omega (arith, ready-counter start.0 start.1 start.2)
+    omega (arith, ready_counter start.0 start.1 start.2)
 
 count-slots-requires : tie.Need-count-slots-requires
 count-slots-requires c κs = search rules
@@ -50,7 +50,7 @@ returns c =
     let at-spent = at_count.before.before in
     let at_slot = at-spent.before in
     let first = at_slot.before.before.before.before.before in (
-      slots-put
+      slots_put
           first.requires.0
           first.requires.1
           first.requires.2
@@ -58,7 +58,7 @@ returns c =
           at-move.move-bytes.ensures
           c.end-slot.ensures
           at_count.count-slots.ensures,
-      slots-left
+      slots_left
           first.args.self.core
           first.args.left
           first.args.slots

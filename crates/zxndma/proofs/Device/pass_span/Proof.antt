@@ -1,6 +1,6 @@
 -- A span is its clocks.
 -- Assumes nothing.
-use Rattle.zxndma.proofs.Turns.{span_left, span-passed}
+use Rattle.zxndma.proofs.Turns.{span_left, span_passed_lem}
 use borrow.Author.Rules.{rules}
 use Rattle.zxndma.proofs.Device.pass_span.Statement.{statement}
 use Rattle.zxndma.proofs.Device.pass_span.Tie as tie
@@ -29,7 +29,7 @@ returns : tie.Need-returns
 returns c =
     let at-move = c.before.before.before.before.before.before.before in
     let at-span = at-move.before.before.before.before.before in
-    span-passed
+    span_passed_lem
     at-span.before.before.before.before.before.requires
     at-span.next-span.ensures.0
     at-move.move-if.ensures

@@ -2,8 +2,8 @@
 -- of which code has asked the first and the last.
 -- Assumes nothing.
 use Rattle.rules.specs.Choice.{pick}
-use Rattle.rules.specs.Refusals.{accessRefusalIf}
-use Rattle.rules.specs.Calls.{unlessRefused, readReplyOver}
+use Rattle.rules.specs.Refusals.{access_refusal_if}
+use Rattle.rules.specs.Calls.{unless_refused, read_reply_over}
 use borrow.Author.Tests.{eq-eqb, ne_eqb}
 use borrow.Author.Rules.{rules}
 use Rattle.zxndma.proofs.Device.read.Statement.{statement}
@@ -22,13 +22,13 @@ read-requires : tie.Need-read-requires
 read-requires c κs = search rules
 
 returns : tie.Need-returns
-unfolding readReplyOver accessRefusalIf unlessRefused pick
+unfolding read_reply_over access_refusal_if unless_refused pick
 returns c =
     let asked = c.before.before.before in
     simp (← asked.before.before.is-valid.ensures, ← asked.before.holds-bus.ensures, ← asked.access-number.ensures, eq-eqb _ _ c.before.before.if1.true, c.before.read.ensures)
 
 returns-2 : tie.Need-returns-2
-unfolding readReplyOver accessRefusalIf unlessRefused pick
+unfolding read_reply_over access_refusal_if unless_refused pick
 returns-2 c =
     let asked = c.before in
     simp (← asked.before.before.is-valid.ensures, ← asked.before.holds-bus.ensures, ← asked.access-number.ensures, ne_eqb _ _ c.if1.false)

@@ -2,8 +2,8 @@
 -- Assumes nothing.
 use borrow.Author.Rules.{rules}
 use Rattle.rules.specs.Buffers.{flat}
-use Rattle.rules.proofs.Turns.{Going, going-ready, going_more, going_end}
-use Rattle.zxndma.proofs.Turns.{made, grant-starts, going-lengths}
+use Rattle.rules.proofs.Turns.{Going, going_ready, going_more, going_end}
+use Rattle.zxndma.proofs.Turns.{made, grant_starts, going_lengths}
 use Rattle.zxndma.proofs.Device.run.Statement.{statement}
 use Rattle.zxndma.proofs.Device.run.Tie as tie
 
@@ -14,10 +14,10 @@ abbrev decreases-loop : tie.decreases-loop
 decreases-loop memory₀ latches₀ clocks device₀ left₀ memory latches device left = left
 
 loop-holds : tie.Need-loop-init invariant-loop decreases-loop
-loop-holds c = grant-starts _ _ _ _ _ (record { a = record { address = search rules; pointer = search rules; step = search rules }; b = record { address = search rules; pointer = search rules; step = search rules }; length = search rules; prescaler = search rules }) c.before.before.requires
+loop-holds c = grant_starts _ _ _ _ _ (record { a = record { address = search rules; pointer = search rules; step = search rules }; b = record { address = search rules; pointer = search rules; step = search rules }; length = search rules; prescaler = search rules }) c.before.before.requires
 
 turn-requires : tie.Need-turn-requires invariant-loop decreases-loop
-turn-requires c κs = going-ready flat c.before.before.before.loop.invariant c.before.before.loop-test.true
+turn-requires c κs = going_ready flat c.before.before.before.loop.invariant c.before.before.loop-test.true
 
 loop-less : tie.Need-loop-smaller invariant-loop decreases-loop
 loop-less c = c.before.before.before.before.before.turn.ensures.fewer
@@ -26,10 +26,10 @@ loop-again : tie.Need-loop-preserved invariant-loop decreases-loop
 loop-again c = going_more flat c.before.before.before.before.before.before.before.before.before.loop.invariant c.before.before.before.before.before.turn.ensures
 
 same_length : tie.Need-same-length invariant-loop decreases-loop
-same_length c = (going-lengths c.before.loop.invariant).memory
+same_length c = (going_lengths c.before.loop.invariant).memory
 
 same-length-2 : tie.Need-same-length-2 invariant-loop decreases-loop
-same-length-2 c = (going-lengths c.before.loop.invariant).latches
+same-length-2 c = (going_lengths c.before.loop.invariant).latches
 
 returns : tie.Need-returns invariant-loop decreases-loop
 returns c = going_end flat c.before.loop.invariant c.loop-test.false

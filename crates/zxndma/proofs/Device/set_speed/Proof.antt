@@ -2,8 +2,8 @@
 -- which code has asked the first.
 -- Assumes nothing.
 use Rattle.rules.specs.Choice.{pick}
-use Rattle.rules.specs.Refusals.{speedRefusalIf}
-use Rattle.rules.specs.Calls.{unlessRefused, speedReplyOver}
+use Rattle.rules.specs.Refusals.{speed_refusal_if}
+use Rattle.rules.specs.Calls.{unless_refused, speed_reply_over}
 use borrow.Author.Tests.{eq-eqb, ne_eqb}
 use borrow.Author.Rules.{rules}
 use Rattle.zxndma.proofs.Device.set_speed.Statement.{statement}
@@ -19,11 +19,11 @@ at-speed-requires : tie.Need-at-speed-requires
 at-speed-requires c κs = search rules
 
 returns : tie.Need-returns
-unfolding speedReplyOver speedRefusalIf unlessRefused pick
+unfolding speed_reply_over speed_refusal_if unless_refused pick
 returns c = simp (← c.before.before.before.is-valid.ensures, ← c.before.before.speed-number.ensures, eq-eqb _ _ c.before.if1.true, c.at-speed.ensures)
 
 returns-2 : tie.Need-returns-2
-unfolding speedReplyOver speedRefusalIf unlessRefused pick
+unfolding speed_reply_over speed_refusal_if unless_refused pick
 returns-2 c = simp (← c.before.before.is-valid.ensures, ← c.before.speed-number.ensures, ne_eqb _ _ c.if1.false)
 
 pub set-speed-spec : {M : Type 1} → statement M

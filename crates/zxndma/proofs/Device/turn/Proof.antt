@@ -1,6 +1,6 @@
 -- Whole slots are as many clocks of the definition, and so is a span.
 -- Assumes nothing.
-use Rattle.zxndma.proofs.Turns.{slots-passed}
+use Rattle.zxndma.proofs.Turns.{slots_passed_lem}
 use borrow.Author.Rules.{rules}
 use Rattle.zxndma.proofs.Device.turn.Statement.{statement}
 use Rattle.zxndma.proofs.Device.turn.Tie as tie
@@ -21,7 +21,7 @@ returns : tie.Need-returns
 returns c =
     let at_slots = c.before.before.before.before in
     let at_test = at_slots.before.before.before in
-    slots-passed
+    slots_passed_lem
     at_test.before.before.before.before.before.requires
     at_test.before.slots-within.ensures
     at_test.if1.true

@@ -1,6 +1,6 @@
 -- The slot is the one given, and its kind is the one counted.
 -- Assumes nothing.
-use Rattle.rules.proofs.Spans.{kind-of-code}
+use Rattle.rules.proofs.Spans.{kind_of_code}
 use borrow.Author.Rules.{rules}
 use Rattle.zxndma.proofs.Device.wait.Statement.{statement}
 use Rattle.zxndma.proofs.Device.wait.Tie as tie
@@ -12,7 +12,7 @@ add-requires : tie.Need-add-requires
 add-requires c κs = search rules
 
 returns : tie.Need-returns
-returns c = simp (c.add.ensures, c.before.kind_at.ensures, kind-of-code)
+returns c = simp (c.add.ensures, c.before.kind_at.ensures, kind_of_code)
 
 pub wait_spec : {M : Type 1} → statement M
 wait_spec = tie.close (tie.spec kind-at-requires add-requires returns)

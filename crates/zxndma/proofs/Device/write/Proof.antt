@@ -2,8 +2,8 @@
 -- The number is by the list of tests, of which code has asked the first and the last.
 -- Assumes nothing.
 use Rattle.rules.specs.Choice.{pick}
-use Rattle.rules.specs.Refusals.{accessRefusalIf}
-use Rattle.rules.specs.Calls.{unlessRefused, writeReplyOver}
+use Rattle.rules.specs.Refusals.{access_refusal_if}
+use Rattle.rules.specs.Calls.{unless_refused, write_reply_over}
 use borrow.Author.Tests.{eq-eqb, ne_eqb}
 use borrow.Author.Rules.{rules}
 use Rattle.zxndma.proofs.Device.write.Statement.{statement}
@@ -22,13 +22,13 @@ write-requires : tie.Need-write-requires
 write-requires c κs = search rules
 
 returns : tie.Need-returns
-unfolding writeReplyOver accessRefusalIf unlessRefused pick
+unfolding write_reply_over access_refusal_if unless_refused pick
 returns c =
     let asked = c.before.before.before in
     simp (← asked.before.before.is-valid.ensures, ← asked.before.holds-bus.ensures, ← asked.access-number.ensures, eq-eqb _ _ c.before.before.if1.true, c.before.write.ensures)
 
 returns-2 : tie.Need-returns-2
-unfolding writeReplyOver accessRefusalIf unlessRefused pick
+unfolding write_reply_over access_refusal_if unless_refused pick
 returns-2 c =
     let asked = c.before in
     simp (← asked.before.before.is-valid.ensures, ← asked.before.holds-bus.ensures, ← asked.access-number.ensures, ne_eqb _ _ c.if1.false)
