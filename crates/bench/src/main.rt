@@ -1,5 +1,7 @@
 // The bench program: a session from standard input, its lines to standard output. All it knows of sessions is the library's
 // step; it holds the memory and the latches, reads and writes.
+#![tactic(auto)]
+
 ghost use Rattle.std.specs.Prelude.{◌+◌, ◌-◌, ◌≤◌, ◌≡◌, length};
 ghost use Rattle.clocking.specs.Answers.{borrowed};
 ghost use Rattle.session.specs.Steps.{outcome};
@@ -12,7 +14,7 @@ use session::step;
 use session::step::{Session, Step};
 
 // Where the program is.
-#[derive(Drop)]
+#[derive(Clone, Copy)]
 struct State {
     session: Session,
     // The bytes at hand lie in the input buffer up to `have`, and those up to `at` are done.
@@ -25,7 +27,7 @@ struct State {
 }
 
 // Where it is when the bytes at hand are worked through, and the progress of the last step.
-#[derive(Drop)]
+#[derive(Clone, Copy)]
 struct Worked {
     session: Session,
     at: usize,

@@ -13,7 +13,7 @@ use registers::command;
 use rules::Core;
 
 // A clock: its kind (`rules::BUS`, `HELD` or `CPU`), whether a byte moves on it, and the core after it.
-#[derive(Drop)]
+#[derive(Clone, Copy)]
 pub struct Tick {
     pub kind: u8,
     pub moves: bool,

@@ -1,4 +1,6 @@
 // Clocks of the core, taken one by one or many at once, and the bytes that move on them.
+#![tactic(auto)]
+
 pub mod clock;
 pub mod count;
 pub mod place;

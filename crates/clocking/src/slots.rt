@@ -33,7 +33,7 @@ pub fn slots_within(c: Core, budget: u32) -> u32
 }
 
 // The two ports.
-#[derive(Drop)]
+#[derive(Clone, Copy)]
 pub struct Ports {
     pub a: Port,
     pub b: Port,

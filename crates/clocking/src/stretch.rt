@@ -41,7 +41,7 @@ pub(crate) fn stretch_rest(s: Slot) -> u32
 }
 
 // Clocks of a slot on which no byte moves and the slot does not end.
-#[derive(Drop)]
+#[derive(Clone, Copy)]
 pub struct Wait {
     // They are such clocks.
     pub quiet: bool,

@@ -1,4 +1,6 @@
 // A floor under the processor's time: a number of clocks in a row of which the processor has one at least.
+#![tactic(auto)]
+
 ghost use Rattle.std.specs.Prelude.{◌≡◌};
 ghost use Rattle.rules.specs.Slots.{larger};
 ghost use Rattle.rules.specs.Validity.{total};

@@ -1,4 +1,6 @@
 // The device's calls by value, for C and for Rust. Each hands what it is given to the function that it wraps, and answers the same.
+#![tactic(auto)]
+
 ghost use Rattle.std.specs.Prelude.{◌≡◌};
 ghost use Rattle.rules.specs.Validity.{valid, total};
 ghost use Rattle.rules.specs.Floor.{cpu_floor};

@@ -1,6 +1,8 @@
 // The device's calls for hosts that keep their devices in a place of their own, for C and for Rust: each borrows a device,
 // hands a copy of it to the call by value, and puts what that call hands back in its place. A refused call leaves the device as
 // it was. Core and clock counts are put back one by one; what lies between them in memory has no meaning.
+#![tactic(auto)]
+
 ghost use Rattle.std.specs.Prelude.{◌≡◌};
 ghost use Rattle.rules.specs.Buffers.{flat};
 ghost use Rattle.rules.specs.Calls.{write_reply, read_reply, speed_reply, grant};

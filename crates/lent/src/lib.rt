@@ -1,9 +1,10 @@
 // What the calls in place answer beside the device, which stays where it is. This crate has no function: its definitions put answer
 // and device together, and its theorems say what the promises of these calls come to.
+#![tactic(auto)]
 
 // What a port write answers beside the device.
 #[repr(C)]
-#[derive(Drop)]
+#[derive(Clone, Copy)]
 pub struct Written {
     // 0 for accepted, else the refusal number: 1, 2 or 3.
     pub number: u8,
@@ -13,7 +14,7 @@ pub struct Written {
 
 // What a port read answers beside the device.
 #[repr(C)]
-#[derive(Drop)]
+#[derive(Clone, Copy)]
 pub struct Given {
     // 0 for accepted, else the refusal number: 1, 2 or 3.
     pub number: u8,

@@ -1,5 +1,7 @@
 // The lines that a session writes. Each function puts its bytes at the front of a borrowed slice, or from a place on, and
 // answers the place behind them.
+#![tactic(auto)]
+
 ghost use Rattle.std.specs.Prelude.{◌≡◌, [], ◌∷◌, ◌+◌, ◌≤◌, ◌<◌, length};
 ghost use Rattle.lines.specs.Lines.{decimal_to, hex_digit, number_then, number_line, write_line, read_line, record_line, counts_line, fault_line, Put, PutLine};
 

@@ -1,4 +1,6 @@
 // The read mask: which of the seven registers is read next.
+#![tactic(auto)]
+
 ghost use Rattle.std.specs.Prelude.{◌≡◌, ◌<◌};
 ghost use Rattle.std.specs.Int.Count.{count_trailing_zeros};
 ghost use Rattle.rules.specs.Readback.{chosen};

@@ -1,4 +1,6 @@
 // The parts of the core: what each is and what is done to it, which are valid, and why a call is refused.
+#![tactic(auto)]
+
 pub mod block;
 pub mod bytes;
 pub mod part;

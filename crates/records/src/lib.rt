@@ -1,11 +1,13 @@
 // The records of a session's bytes.
+#![tactic(auto)]
+
 ghost use Rattle.std.specs.Prelude.{◌≡◌, ◌+◌, ◌*◌, ◌≤◌, ◌<◌, length};
 ghost use Rattle.records.specs.Records.{short, behind, write_record, read_record, grant_record, memory_record, of_kind, record_at, long_length};
 ghost use Rattle.records.specs.Records.{none as noRecord};
 ghost use Rattle.records.specs.BigEndian.{word, quad};
 
 // What stands at a place of a session's bytes.
-#[derive(Drop)]
+#[derive(Clone, Copy)]
 pub struct Record {
     // 0: more bytes are needed. 1 to 4: a record of that kind. 5: no record, the input ends here. 21, 22: a fault.
     pub number: u8,

@@ -1,4 +1,6 @@
 // The work over the core: what a port write does, and what a port read gives.
+#![tactic(auto)]
+
 pub mod command;
 pub mod readback;
 pub mod register;

@@ -7,7 +7,7 @@ ghost use Rattle.registers.specs.Answers.{given};
 use rules::{Core, Status};
 
 // The answer to an accepted read: the byte, and the core after it.
-#[derive(Drop)]
+#[derive(Clone, Copy)]
 pub struct Given {
     pub byte: u8,
     pub core: Core,

@@ -12,7 +12,7 @@ use parts::{bytes, part, pending, port, selection, warning};
 use rules::Core;
 
 // A byte decoded: its warning, and the core after it.
-#[derive(Drop)]
+#[derive(Clone, Copy)]
 pub struct Decoded {
     pub warning: u8,
     pub core: Core,

@@ -1,10 +1,11 @@
 // What the device holds, part by part, and the span of clocks that code takes at once. Every part is plain data, handed over
 // by value; no part is an enum, so that each can cross to C as it stands. The rules over these types are the definitions in
 // specs/.
+#![tactic(auto)]
 
 // One of the device's two ports, A or B.
 #[repr(C)]
-#[derive(Drop)]
+#[derive(Clone, Copy)]
 pub struct Port {
     // Starting address, 0 to 65,535: what Load and auto restart copy into the pointer.
     pub address: u16,
@@ -20,7 +21,7 @@ pub struct Port {
 
 // The block that is transferred.
 #[repr(C)]
-#[derive(Drop)]
+#[derive(Clone, Copy)]
 pub struct Block {
     // Block length as written to WR0, 0 to 65,535.
     pub length: u16,
@@ -32,7 +33,7 @@ pub struct Block {
 
 // How the block is transferred.
 #[repr(C)]
-#[derive(Drop)]
+#[derive(Clone, Copy)]
 pub struct Control {
     // From port A to port B; otherwise from B to A.
     pub forward: bool,
@@ -49,7 +50,7 @@ pub struct Control {
 
 // The two bits of the status byte that change.
 #[repr(C)]
-#[derive(Drop)]
+#[derive(Clone, Copy)]
 pub struct Status {
     // Bit E: false once a block was found finished, until Reset or 8B.
     pub e: bool,
@@ -59,7 +60,7 @@ pub struct Status {
 
 // What the next port reads give.
 #[repr(C)]
-#[derive(Drop)]
+#[derive(Clone, Copy)]
 pub struct Readback {
     // Read mask, bit k for register k; valid up to 127.
     pub mask: u8,
@@ -71,7 +72,7 @@ pub struct Readback {
 
 // The running transfer slot (document 01: slot); in a valid core all 0 and continuous while no clock of one has elapsed.
 #[repr(C)]
-#[derive(Drop)]
+#[derive(Clone, Copy)]
 pub struct Slot {
     // Clocks elapsed (document 01: spent), 0 to 8,159.
     pub elapsed: u16,
@@ -85,7 +86,7 @@ pub struct Slot {
 
 // Where a byte lies: in memory or in the I/O latches.
 #[repr(C)]
-#[derive(Drop)]
+#[derive(Clone, Copy)]
 pub struct Place {
     // Address, 0 to 65,535.
     pub address: u16,
@@ -95,7 +96,7 @@ pub struct Place {
 
 // The clock counts (document 01: the three books). Their sum fits 64 bits in a valid device.
 #[repr(C)]
-#[derive(Drop)]
+#[derive(Clone, Copy)]
 pub struct Clocks {
     // Clocks spent on the bus.
     pub bus: u64,
@@ -107,7 +108,7 @@ pub struct Clocks {
 
 // The device without its clock counts.
 #[repr(C)]
-#[derive(Drop)]
+#[derive(Clone, Copy)]
 pub struct Core {
     pub a: Port,
     pub b: Port,
@@ -133,7 +134,7 @@ pub const CPU: u8 = 2;
 
 // A span of clocks of one kind, on whose last clock a byte may move.
 #[repr(C)]
-#[derive(Drop)]
+#[derive(Clone, Copy)]
 pub struct Span {
     // BUS, HELD or CPU.
     pub kind: u8,

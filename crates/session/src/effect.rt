@@ -10,7 +10,7 @@ use records::Record;
 use zxndma::Device;
 
 // What a record is answered with: its number, the byte of a port read, the warning of a port write, and the device afterwards.
-#[derive(Drop)]
+#[derive(Clone, Copy)]
 pub struct Effect {
     pub number: u8,
     pub byte: u8,

@@ -38,7 +38,7 @@ pub const IS_OVER: u8 = 2;
 pub const NO_ROOM: u8 = 9;
 
 // A session on its way.
-#[derive(Drop)]
+#[derive(Clone, Copy)]
 pub struct Session {
     // 0: the version byte comes next. 1: a record comes next. 2: within a record that is too long for any kind. 3: over.
     pub phase: u8,
@@ -48,7 +48,7 @@ pub struct Session {
 }
 
 // The answer of a step.
-#[derive(Drop)]
+#[derive(Clone, Copy)]
 pub struct Step {
     // GOES_ON, WAITS, IS_OVER or NO_ROOM.
     pub progress: u8,

@@ -1,5 +1,7 @@
 // For the timing: the search for the next register in the mask by a loop, beside the library's own. Both have one promise, and
 // one function goes over lists with either.
+#![tactic(auto)]
+
 ghost use Rattle.std.specs.Prelude.{◌≡◌, ◌%◌, ◌^◌};
 ghost use Rattle.rules.specs.Bytes.{bit};
 ghost use Rattle.rules.specs.Readback.{after, chosen};

@@ -1,5 +1,7 @@
 // The device: power on, port writes, port reads, speed calls and grants of clocks. A device goes in by value and comes back
 // with the answer; a refused call hands it back as it came.
+#![tactic(auto)]
+
 ghost use Rattle.std.specs.Prelude.{◌≡◌, ◌*◌, ◌-◌, ◌<◌};
 ghost use Rattle.rules.specs.Validity.{total, valid};
 ghost use Rattle.rules.specs.Floor.{cpu_floor};
@@ -22,7 +24,7 @@ use rules::{Clocks, Core, Slot};
 
 // A zxnDMA: its core and its clock counts (document 01: books). Any content is a device; the calls refuse an invalid one.
 #[repr(C)]
-#[derive(Drop)]
+#[derive(Clone, Copy)]
 pub struct Device {
     pub core: Core,
     pub clocks: Clocks,
@@ -30,7 +32,7 @@ pub struct Device {
 
 // The answer to a port write.
 #[repr(C)]
-#[derive(Drop)]
+#[derive(Clone, Copy)]
 pub struct WriteAnswer {
     // 0 for accepted, else the refusal number: 1, 2 or 3.
     pub number: u8,
@@ -44,7 +46,7 @@ pub struct WriteAnswer {
 
 // The answer to a port read.
 #[repr(C)]
-#[derive(Drop)]
+#[derive(Clone, Copy)]
 pub struct ReadAnswer {
     // 0 for accepted, else the refusal number: 1, 2 or 3.
     pub number: u8,
@@ -56,7 +58,7 @@ pub struct ReadAnswer {
 
 // The answer to a speed call.
 #[repr(C)]
-#[derive(Drop)]
+#[derive(Clone, Copy)]
 pub struct SpeedAnswer {
     // 0 for accepted, else the refusal number: 1 or 7.
     pub number: u8,
@@ -66,7 +68,7 @@ pub struct SpeedAnswer {
 
 // The answer to a grant.
 #[repr(C)]
-#[derive(Drop)]
+#[derive(Clone, Copy)]
 pub struct GrantAnswer {
     // 0 for accepted, else the refusal number: 1, 4, 5 or 6.
     pub number: u8,
@@ -75,7 +77,7 @@ pub struct GrantAnswer {
 }
 
 // A device on the way through a grant, and the clocks left.
-#[derive(Drop)]
+#[derive(Clone, Copy)]
 struct Progress {
     device: Device,
     left: u32,
