@@ -2,7 +2,6 @@
 -- finished.
 -- Assumes nothing.
 use Rattle.std.proofs.Common.{◌≡◌, ℕ, Bool, true, false, not, ◌&&◌, eqb, ltb, leb, List, [], ◌∷◌, sym, refl, ◌∙◌}
-use borrow.Author.Tests.{not-true, not-false}
 use Rattle.rules.specs.Choice.{pick, every, any, means}
 use Rattle.rules.specs.Blocks.{finished}
 use Rattle.rules.specs.Speed.{is_speed}
@@ -45,11 +44,11 @@ module _ (c : Core) {a b speed readback : Bool} (d : a ≡ cycle_test c.a.cycle)
   unfolding valid_core_if valid_port valid_readback
   fields_in_one = simp (d, e, f, g) (five_in_one _ _ _ _ _ _)
 
-  pub fields_fail : not fields ≡ true → false ≡ valid_core c
-  fields_fail h = sym (fields_in_one ∙ every_stop _ _ (not-true _ h))
+  pub fields_fail : fields ≡ false → false ≡ valid_core c
+  fields_fail h = sym (fields_in_one ∙ every_stop _ _ h)
 
-  pub progress_settles : not fields ≡ false → valid_pending c.pending ≡ true → valid_slot c.enabled c.slot ≡ true → valid_progress c.enabled c.block c.slot ≡ valid_core c
-  progress_settles h p s = sym (fields_in_one ∙ last_settles _ _ _ _ (not-false _ h) p s)
+  pub progress_settles : fields ≡ true → valid_pending c.pending ≡ true → valid_slot c.enabled c.slot ≡ true → valid_progress c.enabled c.block c.slot ≡ valid_core c
+  progress_settles h p s = sym (fields_in_one ∙ last_settles _ _ _ _ h p s)
 
 -- not all of three tests hold: where the first two do, the third does not
 pub not_all : (s t u : Bool) → not (s && (t && u)) ≡ means (every (s ∷ t ∷ [])) (not u)

@@ -111,11 +111,11 @@ not_of_false true e = clash (sym e)
 not_of_false false e = refl
 
 -- a test that code found to hold, or to fail, holds or fails as defined
-pub holds : {s t : Bool} → s ≡ t → not s ≡ false → t ≡ true
-holds {s} e h = sym e ∙ not-false s h
+pub holds : {s t : Bool} → s ≡ t → s ≡ true → t ≡ true
+holds e h = sym e ∙ h
 
-pub fails : {s t : Bool} → s ≡ t → not s ≡ true → t ≡ false
-fails {s} e h = sym e ∙ not-true s h
+pub fails : {s t : Bool} → s ≡ t → s ≡ false → t ≡ false
+fails e h = sym e ∙ h
 
 -- a test is true or false
 pub either {ℓ} : {X : Type ℓ} (t : Bool) → (t ≡ true → X) → (t ≡ false → X) → X
