@@ -1,0 +1,8 @@
+-- Both ports are advanced, and the counter has room for one more.
+-- Assumes nothing.
+use borrow.Author.Rules.{rules}
+use Rattle.clocking.proofs.clock.byte_moved.Goals as goal
+
+pub returns : goal.returns
+returns c =
+    simp (c.advance-a.ensures, c.advance-b.ensures)

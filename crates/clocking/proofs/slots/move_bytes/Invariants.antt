@@ -1,0 +1,13 @@
+use Prim.Native.Nat.{◌-◌}
+use native.Mathlib.Omega.{arith}
+use mathlib.Core.Path.{◌≡◌}
+use borrow.Author.Rules.{rules}
+use Rattle.rules.specs.Ports.{stride}
+use Rattle.clocking.proofs.WholeSlots.{Carrying, carrying_start, carrying_more, carrying_end, carrying_lengths}
+use Rattle.clocking.proofs.slots.move_bytes.Given as goal
+
+abbrev pub invariant-loop-i : goal.invariant-loop-i
+invariant-loop-i l = Carrying l.c l.initial.memory l.initial.latches l.k l.memory l.latches l.a l.b l.i × (l.a_stride ≡ stride l.c.a.step) × (l.b_stride ≡ stride l.c.b.step)
+
+abbrev pub decreases-loop-i : goal.decreases-loop-i
+decreases-loop-i l = l.k - l.i
