@@ -1,0 +1,10 @@
+use Rattle.rules.proofs.Reading.{seek_end, seek_here, seek_on}
+use Rattle.rules.specs.Readback.{seek, chosen}
+use Rattle.std.proofs.Common.{◌≡◌, sym, refl, ◌∙◌, arith, rules}
+use Rattle.timing.proofs.first_by_loop.Given as goal
+
+abbrev pub invariant-loop-left : goal.invariant-loop-left
+invariant-loop-left l = seek l.left l.mask l.k ≡ chosen l.mask l.position
+
+abbrev pub decreases-loop-left : goal.decreases-loop-left
+decreases-loop-left l = l.left

@@ -1,0 +1,9 @@
+use Rattle.std.proofs.Common.{◌-◌, rules}
+use Rattle.timing.proofs.Sums.{Going, going_start, going_more, going_end}
+use Rattle.timing.proofs.timing_sum.Given as goal
+
+abbrev pub invariant-loop-i : goal.invariant-loop-i
+invariant-loop-i l = Going l.pairs l.i-end l.sum l.i
+
+abbrev pub decreases-loop-i : goal.decreases-loop-i
+decreases-loop-i l = l.i-end - l.i
