@@ -10,14 +10,6 @@ pub returns-then-most-eq0 : goal.returns-then-most-eq0
 returns-then-most-eq0 t c =
     record { put = put_none _ _ _ _ c.if-most-eq0.true; upper_bound = omega arith }
 
-pub digit-last-requires : goal.digit-last-requires
-digit-last-requires t c =
-    c.if-n-lt10.true
-
-pub put_byte-requires : goal.put_byte-requires
-put_byte-requires t c =
-    omega (arith, c.requires.1, pos_of_ne-zero c.if-most-eq0.false)
-
 pub shape_of-line-then-n-lt10 : goal.shape_of-line-then-n-lt10
 shape_of-line-then-n-lt10 t c =
     c.put_byte.ensures.size
@@ -30,19 +22,6 @@ returns-then-n-lt10 t c =
 pub overflow_sub-most : goal.overflow_sub-most
 overflow_sub-most t c =
     pos_of_ne-zero c.if-most-eq0.false
-
-pub put_decimal-next-requires : goal.put_decimal-next-requires
-put_decimal-next-requires t c =
-    let some = pos_of_ne-zero c.if-most-eq0.false in
-    (omega (arith, c.requires.0, some), omega (arith, c.requires.1, some))
-
-pub digit-last-requires-2 : goal.digit-last-requires-2
-digit-last-requires-2 t c =
-    omega arith
-
-pub put_byte-requires-2 : goal.put_byte-requires-2
-put_byte-requires-2 t c =
-    omega (arith, c.requires.1, pos_of_ne-zero c.if-most-eq0.false, c.put_decimal-next.ensures.upper_bound, c.put_decimal-next.ensures.put.size)
 
 pub shape_of-line : goal.shape_of-line
 shape_of-line t c =
