@@ -1,0 +1,9 @@
+use Rattle.std.proofs.Common.{◌-◌, arith, rules}
+use Rattle.session.proofs.Effects.{Poking, poking_start, poking_more, poking_end}
+use Rattle.session.proofs.effect.poke.Given as goal
+
+abbrev pub invariant-loop-at : goal.invariant-loop-at
+invariant-loop-at l = Poking l.input l.initial.memory l.initial.at l.end l.initial.to l.memory l.at l.to
+
+abbrev pub decreases-loop-at : goal.decreases-loop-at
+decreases-loop-at l = l.end - l.at
