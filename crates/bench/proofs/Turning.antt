@@ -34,33 +34,21 @@ module _ (s : State) (input : List ℕ) (fits : s.have ≤ length input) where
   abbrev pub read_into : ℕ → List ℕ → List ℕ → List ℕ
   read_into count l part = take count l ++ (part ++ drop (length l - count) (drop count l))
 
-  -- the part, as code lends it
-  abbrev pub part_of : ℕ → List ℕ → List ℕ → List ℕ
-  part_of count l part = take (length (read_into count l part) - count) (drop count (read_into count l part))
-
   -- the state after a read of some bytes behind those kept
   abbrev read_state : Bool → ℕ → Bool → State
   read_state failed have ended =
       record { session = s.session; at = 0; have = have; ended = ended; stopped = pick failed true s.stopped }
 
   module _ {count : ℕ} {l : List ℕ} (part : List ℕ) (k : (count ≡ s.have - s.at) × (l ≡ kept s.at s.have input)) (size : length l ≡ length input) where
-    read_most : {more : ℕ} → more ≤ length (part_of count l part) → more ≤ length part
-    read_most {more} h = let
-        rest : List ℕ = drop (length l - count) (drop count l)
-        in
-        let tail : drop count (read_into count l part) ≡ part ++ rest = drop_at (take count l) (part ++ rest) count (length-take-le count l (omega (arith, k.0))) in
-        omega (arith, h, length-take (length (read_into count l part) - count) (drop count (read_into count l part)), ap length tail, length-append part rest, ap length (tail_behind count l))
-
     pub refilled :
         (failed : Bool) {more : ℕ} {ended : Bool}
-        → more ≤ length (part_of count l part)
+        → more ≤ length part
         → pick failed s.ended (pick (eqb more 0) true s.ended) ≡ ended
         → Refilled s input (read_state failed (count + more) ended) (read_into count l part)
     refilled failed {more} {ended} h e = let
         old : List ℕ = not_taken s.at s.have input
         in
         let rest : List ℕ = drop (length l - count) (drop count l) in
-        let most : more ≤ length part = read_most h in
         let count_old : count ≡ length old = k.0 ∙ sym (length-slice s.at s.have input fits) in
         record {
           failed = failed;
@@ -68,12 +56,12 @@ module _ (s : State) (input : List ℕ) (fits : s.have ≤ length input) where
           state =
               ap (read_state failed (count + more)) (sym e)
               ∙ ap (λ (m : ℕ). state_with s failed m more) count_old
-              ∙ ap (state_with s failed (length old)) (sym (length-take-le more part most));
+              ∙ ap (state_with s failed (length old)) (sym (length-take-le more part h));
           bytes =
               ap (λ (x : List ℕ). take (count + more) (x ++ (part ++ rest))) (kept_front k.0 k.1)
               ∙ ap (λ (m : ℕ). take (m + more) (old ++ (part ++ rest))) count_old
               ∙ take-append-add old (part ++ rest) more
-              ∙ ap (λ (x : List ℕ). old ++ x) (take-append-le more part rest most);
+              ∙ ap (λ (x : List ℕ). old ++ x) (take-append-le more part rest h);
         }
 
 -- ---- a turn

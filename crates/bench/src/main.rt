@@ -9,9 +9,10 @@ ghost use Rattle.bench.specs.Buffered.{at_hand, kept};
 ghost use Rattle.bench.specs.Working.{step_behind, gathered_in, left, left_by};
 ghost use Rattle.bench.specs.Turning.{AreLines, Refilled, Turned, Ran};
 
-use libc::{STDIN_FILENO, STDOUT_FILENO};
 use session::step;
 use session::step::{Session, Step};
+use std::io;
+use std::io::{Read, Write};
 
 // Where the program is.
 #[derive(Clone, Copy)]
@@ -35,16 +36,29 @@ struct Worked {
     progress: u8,
 }
 
+// Says on standard error what could not be done, and why. Where that cannot be said either, nobody hears of it.
+fn say<R: Eprint>(rt: &R, what: &str, why: &io::Error) {
+    let _ = eprintln!(rt; "bench: cannot {what}: {why}");
+}
+
 // Writes the lines that have gathered, and answers whether it could. Where the program was and what was at hand say in the
 // contract whose lines they are.
-fn flush(state: State, input: &[u8], output: &[u8], filled: usize) -> bool
+fn flush<R: Print + Eprint>(
+    rt: &R,
+    state: State,
+    input: &[u8],
+    output: &[u8],
+    filled: usize,
+) -> bool
     requires { AreLines state input.now output.now filled }
 {
-    let is_written = io::write_all(STDOUT_FILENO, &output[0..filled]);
-    if !is_written {
-        os::fail(b"bench: cannot write the lines");
+    match io::writer(rt).write_all(&output[0..filled]) {
+        Ok(()) => true,
+        Err(why) => {
+            say(rt, "write the lines", &why);
+            false
+        }
     }
-    is_written
 }
 
 // Moves the bytes from `at` up to `have` to the front of the buffer, and answers how many there are.
@@ -122,30 +136,34 @@ fn work(
 }
 
 // Reads more bytes behind those that are not done yet. No byte means that the input has ended.
-fn refill(state: State, input: &mut [u8]) -> State
+fn refill<R: Input + Eprint>(rt: &R, state: State, input: &mut [u8]) -> State
     requires { state.have ≤ length input.old }
     ensures { Refilled state input.old result input.new }
 {
     let kept = keep(input, state.at, state.have);
-    let got = libc::read(STDIN_FILENO, &mut input[kept..]);
-    let more = io::count(got, &input[kept..]);
     let mut next = state;
     next.at = 0;
-    next.have = kept + more;
-    if got < 0 {
-        os::fail(b"bench: cannot read the session");
-        next.stopped = true;
-        return next;
+    match rt.reader().read(&mut input[kept..]) {
+        Ok(more) => {
+            next.have = kept + more;
+            if more == 0 {
+                next.ended = true;
+                return next;
+            }
+            next
+        }
+        Err(why) => {
+            say(rt, "read the session", &why);
+            next.have = kept;
+            next.stopped = true;
+            next
+        }
     }
-    if more == 0 {
-        next.ended = true;
-        return next;
-    }
-    next
 }
 
 // Works through the bytes at hand, writes the lines, and reads more bytes where they are needed.
-fn turn(
+fn turn<R: Input + Print + Eprint>(
+    rt: &R,
     state: State,
     input: &mut [u8],
     output: &mut [u8],
@@ -156,7 +174,7 @@ fn turn(
     ensures { Turned state (gathered_in state input.old output.old (borrowed memory.old latches.old)) input.old result input.new output.new (borrowed memory.new latches.new) }
 {
     let worked = work(state, input, output, memory, latches);
-    let is_written = flush(state, input, output, worked.filled);
+    let is_written = flush(rt, state, input, output, worked.filled);
     let session = worked.session;
     let mut next = state;
     next.session = session;
@@ -170,14 +188,14 @@ fn turn(
         return next;
     }
     if worked.progress == step::WAITS {
-        return refill(next, input);
+        return refill(rt, next, input);
     }
     next
 }
 
 // A session from its first byte to its last line. Nothing says that the input ends, and a proved loop has to, so the turns are
 // counted down from a number that no run uses up.
-fn run(memory: &mut [u8], latches: &mut [u8])
+fn run<R: Input + Print + Eprint>(rt: &R, memory: &mut [u8], latches: &mut [u8])
     ensures { Ran (borrowed memory.old latches.old) (borrowed memory.new latches.new) }
 {
     let mut input = [0u8; 65536];
@@ -194,13 +212,13 @@ fn run(memory: &mut [u8], latches: &mut [u8])
     };
     let mut turns = u64::MAX;
     while 0 < turns && !state.stopped {
-        state = turn(state, bytes, lines, memory, latches);
+        state = turn(rt, state, bytes, lines, memory, latches);
         turns -= 1;
     }
 }
 
-fn main() {
+fn main(rt: HostRuntime) {
     let mut memory = [0; 65536];
     let mut latches = [0; 65536];
-    run(&mut memory, &mut latches);
+    run(&rt, &mut memory, &mut latches);
 }

@@ -1,0 +1,11 @@
+use Prim.Native.Nat.{◌≤◌, ◌-◌}
+use borrow.Author.Rules.{rules}
+use lib.ListN.{length}
+use Rattle.bench.proofs.Buffered.{Keeping, keeping_start, keeping_more, keeping_end}
+use Rattle.bench.proofs.keep.Given as goal
+
+abbrev pub invariant-loop-from : goal.invariant-loop-from
+invariant-loop-from l = (l.have ≤ length l.initial.input) × Keeping l.initial.input l.at l.have l.input l.count l.from
+
+abbrev pub decreases-loop-from : goal.decreases-loop-from
+decreases-loop-from l = l.have - l.from

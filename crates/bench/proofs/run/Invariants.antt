@@ -1,0 +1,15 @@
+use native.Mathlib.Omega.{arith}
+use mathlib.Core.Path.{◌≡◌, refl, ◌∙◌}
+use borrow.Author.Rules.{rules}
+use borrow.Author.Tests.{not-false, not-true}
+use lib.ListN.{length}
+use Rattle.clocking.specs.Answers.{borrowed}
+use Rattle.bench.proofs.Turning.{Running, running_start, running_more, running_end}
+use Rattle.bench.proofs.run.Given as goal
+
+abbrev pub invariant-loop-turns : goal.invariant-loop-turns
+invariant-loop-turns g l =
+    Running (borrowed l.initial.memory l.initial.latches) l.bytes l.lines l.memory l.latches l.state l.turns
+
+abbrev pub decreases-loop-turns : goal.decreases-loop-turns
+decreases-loop-turns g l = l.turns

@@ -1,0 +1,12 @@
+use Prim.Native.Nat.{◌≤◌}
+use native.Mathlib.Omega.{arith}
+use borrow.Author.Rules.{rules}
+use lib.ListN.{length, take}
+use Rattle.bench.proofs.Working.{Going, to_go, going_start, going_more, going_less, going_end}
+use Rattle.bench.proofs.work.Given as goal
+
+abbrev pub invariant-loop-progress : goal.invariant-loop-progress
+invariant-loop-progress l = (l.have ≤ length l.input) × Going (take l.have l.input) l.ended l.initial.session l.initial.at l.initial.output l.initial.memory l.initial.latches l.output l.memory l.latches l.session l.at l.filled l.progress
+
+abbrev pub decreases-loop-progress : goal.decreases-loop-progress
+decreases-loop-progress l = to_go (take l.have l.input) l.progress l.at
