@@ -22,7 +22,7 @@ const HELP: &str = "\
 usage: timings BENCH REFERENCE
 Times the bench program against the second program, docs/src/reference.rs.
 
-  BENCH      the bench program: target/bin/bench, as `rt check bench` leaves it
+  BENCH      the bench program: target/bin/bench, as `docs/src/build-proved bench` leaves it
   REFERENCE  the second program, built by `rustc --edition 2021 -O reference.rs`
 
 Runs both programs on the same sessions, in turn, five times each, and prints

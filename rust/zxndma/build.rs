@@ -48,12 +48,12 @@ fn make_if_missing(name: &str, library: &Path, root: &Path) -> Result<(), String
         return Ok(());
     }
     let missing = format!("there is no {}", library.display());
-    match Command::new("rt").args(["staticlib", name]).current_dir(root).status() {
+    match Command::new(root.join("docs/src/build-proved")).arg(name).current_dir(root).status() {
         Ok(status) if status.success() && library.is_file() => Ok(()),
         Ok(status) => {
-            Err(format!("{missing}, and 'rt staticlib {name}' did not make it: {status}"))
+            Err(format!("{missing}, and 'docs/src/build-proved {name}' did not make it: {status}"))
         }
-        Err(error) => Err(format!("{missing}, and the Rattle kit (rt) cannot be run: {error}")),
+        Err(error) => Err(format!("{missing}, and docs/src/build-proved cannot be run: {error}")),
     }
 }
 
@@ -113,8 +113,8 @@ fn main() {
             let [host, in_place] = CRATES;
             eprintln!("zxndma: a proved library is missing: {reason}.");
             eprintln!(
-                "Get both by 'rt staticlib {host}' and 'rt staticlib {in_place}' at the root of \
-                 the repository, with the Rattle kit;"
+                "Get both by 'docs/src/build-proved {host} {in_place}' at the root of the \
+                 repository, with the Rattle kit;"
             );
             eprintln!(
                 "or set {FOLDER_VARIABLE} to a folder with a {} and a {} that were made elsewhere.",

@@ -65,7 +65,7 @@ fn stored_sessions_give_their_lines() {
 #[test]
 fn made_sessions_give_the_benchs_lines() {
     let bench = root().join("target/bin/bench");
-    assert!(bench.is_file(), "no {}: build it by 'rt check bench'", bench.display());
+    assert!(bench.is_file(), "no {}: build it by 'docs/src/build-proved bench'", bench.display());
     let bench = bench.to_str().expect("a path in UTF-8");
     let (seed, sessions) = (setting("LAB_SEED", 1), setting("LAB_SESSIONS", 3_000));
     let mut warnings = 0;
