@@ -156,7 +156,7 @@ fn rattle_layout(parts: &str, sources: &[String]) -> Result<Layout, String> {
     let mut wanted = Vec::new();
     let compared = sources.iter().map(|source| (source.as_str(), true));
     for (source, is_compared) in [(parts, false)].into_iter().chain(compared) {
-        let of_c = source.matches("#[repr(C)]\npub struct ").count();
+        let of_c = source.matches("#[repr(C)]\n#[derive(Clone, Copy)]\npub struct ").count();
         if source.matches("pub struct ").count() != of_c {
             return Err("a struct in Rattle is not repr(C)".into());
         }
