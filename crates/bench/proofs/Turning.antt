@@ -8,7 +8,7 @@ use mathlib.Core.List.{List, ◌++◌}
 use borrow.Author.Tests.{eq-eqb, ne_eqb}
 use lib.Dec.{eqb}
 use lib.ListN.{length, take, drop, replicate, length-take, length-append}
-use lib.Seq.{take-append_seam, take_at, drop_at, take-append-le, take-append-add, length-take-le, length-slice}
+use lib.Seq.{take-append_seam, take_at, take-append-le, take-append-add, length-take-le, length-slice}
 use Rattle.rules.specs.Choice.{pick}
 use Rattle.rules.specs.Buffers.{Buffers}
 use Rattle.rules.proofs.Choice.{pick_true, pick-false}
@@ -19,7 +19,6 @@ use Rattle.bench.specs.Buffered.{not_taken, kept}
 use Rattle.bench.specs.Working.{Gathered, gathered_in, Left, left, left_by}
 use Rattle.bench.specs.Turning.{AreLines, state_with, Refilled, NextTurn, Turned, holds_at_start, Turns, most_turns, Ran}
 use Rattle.bench.specs.Turning.Turns.{none, more}
-use Rattle.bench.proofs.Working.{tail_behind}
 use Rattle.bench.specs.declared.State.{State}
 use Rattle.bench.specs.declared.Worked.{Worked}
 

@@ -1,7 +1,7 @@
 -- Whole slots: what their number and their clocks are, and bytes on the way. After i of k bytes the ports are as many steps
 -- further, and the buffers are as after i bytes one by one; a stride is a step, since pointers stay below 65,536.
 -- Assumes nothing.
-use Prim.Native.Nat.{ℕ, ◌+◌, ◌*◌, ◌-◌, ◌/◌, ◌%◌, ◌≤◌, ◌<◌}
+use Prim.Native.Nat.{ℕ, ◌+◌, ◌*◌, ◌/◌, ◌%◌, ◌≤◌, ◌<◌}
 use native.Mathlib.Omega.{arith}
 use native.Mathlib.Nat.{mul-le-mul}
 use native.Mathlib.Numerals.{add-one}

@@ -1,6 +1,6 @@
 -- Two answers that meet one equation are the same, part by part.
 -- Assumes nothing.
-use mathlib.Core.Path.{◌≡◌, ◌∙◌, ap, sym}
+use mathlib.Core.Path.{◌∙◌, ap, sym}
 use Rattle.zxndma.specs.Answers.{device}
 use Rattle.lent.specs.Same.{SameAsByValue}
 

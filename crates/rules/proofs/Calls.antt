@@ -17,7 +17,7 @@ use Rattle.rules.specs.Facts.{ValidParts, InRange, Kept}
 use Rattle.rules.specs.Buffers.{Store, flat, Buffers}
 use Rattle.rules.specs.World.{System, clocked}
 use Rattle.rules.specs.Refusals.{wrong_port, access_refusal, speed_refusal, lent_refusal, grant_refusal, grant_refusal_if, access_refusal_if, speed_refusal_if, lent_refusal_if}
-use Rattle.rules.specs.Calls.{Reply, Answer, accepted, refused, unless_refused, write_reply, read_reply, speed_reply, write, read, grant_number, grant, read_reply_over, speed_reply_over, grant_over, write_reply_over}
+use Rattle.rules.specs.Calls.{Reply, Answer, accepted, refused, unless_refused, write_reply, read_reply, speed_reply, grant_number, grant, read_reply_over, speed_reply_over, grant_over, write_reply_over}
 use Rattle.rules.specs.Keeping.{ValidDevice, StaysValid, StaysValidByTest, HandsBack}
 use Rattle.rules.specs.Opened.{opened}
 use Rattle.rules.specs.declared.Clocks.{Clocks}

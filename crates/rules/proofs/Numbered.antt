@@ -10,7 +10,6 @@ use lib.Dec.{eqb}
 use borrow.Author.Tests.{eqb-true}
 use Rattle.rules.specs.Parts.{with_pending}
 use Rattle.rules.specs.Pending.{next, pending_after, valid_pending}
-use Rattle.rules.specs.PowerOn.{power_on}
 use Rattle.rules.specs.Speed.{at_speed}
 use Rattle.rules.specs.Validity.{total, valid_core_if, valid_core, valid_if, valid}
 use Rattle.rules.specs.Warnings.{warning_as}

@@ -12,7 +12,7 @@ use Rattle.rules.specs.Parts.{with_speed, with_control, with_slot}
 use Rattle.rules.specs.Speed.{factor, at_speed}
 use Rattle.rules.specs.Slots.{bus_time_of, larger, slot_length, new_slot}
 use Rattle.rules.specs.Validity.{valid_core, valid, total}
-use Rattle.rules.specs.Clock.{Clock, clock, clock_of, slot_clock}
+use Rattle.rules.specs.Clock.{Clock, clock_of, slot_clock}
 use Rattle.rules.specs.Buffers.{Store}
 use Rattle.rules.specs.World.{System}
 use Rattle.rules.specs.Refusals.{speed_refusal, speed_refusal_if}

@@ -12,7 +12,6 @@ use Rattle.rules.specs.Choice.{pick, every, any}
 use Rattle.rules.specs.Parts.{with_slot}
 use Rattle.rules.specs.Speed.{at_speed}
 use Rattle.rules.specs.Slots.{no_slot, bus_time_of, larger, slot_length, new_slot, slot_of}
-use Rattle.rules.specs.PowerOn.{power_on}
 use Rattle.rules.specs.Validity.{prescaled_length, valid_length, running_slot, valid_slot, valid_core, valid_core_if, total}
 use Rattle.rules.specs.Steering.{bits}
 use Rattle.rules.specs.Clock.{slot_clock, clock_of}

@@ -1,9 +1,6 @@
 -- Each byte not taken is copied to the front before it is written over.
 -- Assumes nothing.
-use Prim.Native.Nat.{◌≤◌, ◌-◌}
-use borrow.Author.Rules.{rules}
-use lib.ListN.{length}
-use Rattle.bench.proofs.Buffered.{Keeping, keeping_start, keeping_more, keeping_end}
+use Rattle.bench.proofs.Buffered.{keeping_start, keeping_more, keeping_end}
 use Rattle.bench.proofs.keep.Goals as goal
 
 pub loop-from-init : goal.loop-from-init

@@ -1,7 +1,6 @@
 use Prim.Native.Nat.{◌≤◌, ◌-◌}
-use borrow.Author.Rules.{rules}
 use lib.ListN.{length}
-use Rattle.bench.proofs.Buffered.{Keeping, keeping_start, keeping_more, keeping_end}
+use Rattle.bench.proofs.Buffered.{Keeping}
 use Rattle.bench.proofs.keep.Given as goal
 
 abbrev pub invariant-loop-from : goal.invariant-loop-from

@@ -1,12 +1,8 @@
 -- Turn follows turn from the start; they are counted down.
 -- Assumes nothing.
 use native.Mathlib.Omega.{arith}
-use mathlib.Core.Path.{◌≡◌, refl, ◌∙◌}
-use borrow.Author.Rules.{rules}
 use borrow.Author.Tests.{not-false, not-true}
-use lib.ListN.{length}
-use Rattle.clocking.specs.Answers.{borrowed}
-use Rattle.bench.proofs.Turning.{Running, running_start, running_more, running_end}
+use Rattle.bench.proofs.Turning.{running_start, running_more, running_end}
 use Rattle.bench.proofs.run.Goals as goal
 
 pub loop-turns-init : goal.loop-turns-init

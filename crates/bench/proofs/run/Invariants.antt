@@ -1,10 +1,5 @@
-use native.Mathlib.Omega.{arith}
-use mathlib.Core.Path.{◌≡◌, refl, ◌∙◌}
-use borrow.Author.Rules.{rules}
-use borrow.Author.Tests.{not-false, not-true}
-use lib.ListN.{length}
 use Rattle.clocking.specs.Answers.{borrowed}
-use Rattle.bench.proofs.Turning.{Running, running_start, running_more, running_end}
+use Rattle.bench.proofs.Turning.{Running}
 use Rattle.bench.proofs.run.Given as goal
 
 abbrev pub invariant-loop-turns : goal.invariant-loop-turns

@@ -1,10 +1,8 @@
 -- A step goes behind the lines that have gathered, and where it goes on it takes bytes.
 -- Assumes nothing.
-use Prim.Native.Nat.{◌≤◌}
 use native.Mathlib.Omega.{arith}
-use borrow.Author.Rules.{rules}
-use lib.ListN.{length, take}
-use Rattle.bench.proofs.Working.{Going, to_go, going_start, going_more, going_less, going_end}
+use lib.ListN.{take}
+use Rattle.bench.proofs.Working.{going_start, going_more, going_less, going_end}
 use Rattle.bench.proofs.work.Goals as goal
 
 pub loop-progress-init : goal.loop-progress-init

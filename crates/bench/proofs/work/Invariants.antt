@@ -1,8 +1,6 @@
 use Prim.Native.Nat.{◌≤◌}
-use native.Mathlib.Omega.{arith}
-use borrow.Author.Rules.{rules}
 use lib.ListN.{length, take}
-use Rattle.bench.proofs.Working.{Going, to_go, going_start, going_more, going_less, going_end}
+use Rattle.bench.proofs.Working.{Going, to_go}
 use Rattle.bench.proofs.work.Given as goal
 
 abbrev pub invariant-loop-progress : goal.invariant-loop-progress

@@ -2,7 +2,6 @@
 -- Assumes nothing.
 use Rattle.rules.proofs.Choice.{strict}
 use Rattle.rules.specs.Floor.{all_shared}
-use borrow.Author.Rules.{rules}
 use Rattle.floor.proofs.all_shared.Goals as goal
 
 pub returns : goal.returns

@@ -3,7 +3,6 @@
 use Rattle.rules.specs.Choice.{pick}
 use Rattle.rules.specs.Floor.{cpu_floor}
 use Rattle.rules.proofs.Choice.{holds, fails}
-use borrow.Author.Rules.{rules}
 use Rattle.floor.proofs.cpu_floor.Goals as goal
 
 pub returns-then-not-is_valid : goal.returns-then-not-is_valid

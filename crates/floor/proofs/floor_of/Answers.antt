@@ -1,7 +1,6 @@
 -- The parts are those of the definition; 16 bits and one more fit 32.
 -- Assumes nothing.
 use Rattle.rules.specs.Floor.{floor_of}
-use borrow.Author.Rules.{rules}
 use Rattle.floor.proofs.floor_of.Goals as goal
 
 pub returns : goal.returns

@@ -1,6 +1,5 @@
 -- The answer is the one that the wrapped method promises.
 -- Assumes nothing.
-use borrow.Author.Rules.{rules}
 use Rattle.host.proofs.zxndma_cpu_floor.Goals as goal
 
 pub returns : goal.returns

@@ -1,6 +1,5 @@
 -- The answer and both buffers are those that the method promises.
 -- Assumes nothing.
-use borrow.Author.Rules.{rules}
 use Rattle.host.proofs.zxndma_grant.Goals as goal
 
 pub returns : goal.returns

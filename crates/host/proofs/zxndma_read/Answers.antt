@@ -1,6 +1,5 @@
 -- The answer is the one that the method promises.
 -- Assumes nothing.
-use borrow.Author.Rules.{rules}
 use Rattle.host.proofs.zxndma_read.Goals as goal
 
 pub returns : goal.returns

@@ -1,6 +1,5 @@
 -- The answer is the one that the wrapped test promises.
 -- Assumes nothing.
-use borrow.Author.Rules.{rules}
 use Rattle.host.proofs.zxndma_valid.Goals as goal
 
 pub returns : goal.returns

@@ -1,7 +1,6 @@
 -- Runs of bytes put one behind the other are their concatenation put.
 -- Assumes nothing.
 use Rattle.lines.proofs.Lines.{put_more}
-use borrow.Author.Rules.{rules}
 use Rattle.lines.proofs.counts_line.Goals as goal
 
 pub returns : goal.returns

@@ -3,7 +3,6 @@
 use Rattle.rules.specs.Choice.{pick}
 use Rattle.lines.specs.Lines.{hex_digit}
 use borrow.Author.Tests.{lt-ltb, le-ltb}
-use borrow.Author.Rules.{rules}
 use Rattle.lines.proofs.hex_digit.Goals as goal
 
 pub returns-then-n-lt10 : goal.returns-then-n-lt10

@@ -1,7 +1,6 @@
 -- One store is one byte put.
 -- Assumes nothing.
 use Rattle.lines.proofs.Lines.{put_one}
-use borrow.Author.Rules.{rules}
 use Rattle.lines.proofs.put_byte.Goals as goal
 
 pub returns : goal.returns

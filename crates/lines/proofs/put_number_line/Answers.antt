@@ -4,7 +4,6 @@ use mathlib.Core.Path.{ap}
 use Prim.Native.Nat.{ℕ}
 use Rattle.lines.specs.Lines.{number_then}
 use Rattle.lines.proofs.Lines.{put_more, put_as}
-use borrow.Author.Rules.{rules}
 use Rattle.lines.proofs.put_number_line.Goals as goal
 
 pub returns : goal.returns

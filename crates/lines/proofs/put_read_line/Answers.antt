@@ -4,7 +4,6 @@ use Rattle.lines.proofs.Lines.{put_more, put_as, put_two_as}
 use Rattle.lines.specs.Lines.{read_line}
 use Rattle.rules.specs.Choice.{pick}
 use borrow.Author.Tests.{eq-eqb, ne_eqb}
-use borrow.Author.Rules.{rules}
 use Rattle.lines.proofs.put_read_line.Goals as goal
 
 pub returns-then-number-eq0 : goal.returns-then-number-eq0

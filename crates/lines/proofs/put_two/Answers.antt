@@ -1,7 +1,6 @@
 -- The second byte is put behind the first.
 -- Assumes nothing.
 use Rattle.lines.proofs.Lines.{put_more}
-use borrow.Author.Rules.{rules}
 use Rattle.lines.proofs.put_two.Goals as goal
 
 pub returns : goal.returns

@@ -7,7 +7,6 @@ use Rattle.lines.specs.Lines.{number_then, write_line}
 use Rattle.lines.proofs.Lines.{put_more, put_as}
 use Rattle.rules.specs.Choice.{pick}
 use borrow.Author.Tests.{eq-eqb, ne_eqb}
-use borrow.Author.Rules.{rules}
 use Rattle.lines.proofs.put_write_line.Goals as goal
 
 pub returns-then-warning-eq0 : goal.returns-then-warning-eq0

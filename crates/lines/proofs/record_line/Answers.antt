@@ -4,7 +4,6 @@ use Rattle.lines.proofs.Lines.{put_as}
 use Rattle.lines.specs.Lines.{record_line}
 use Rattle.rules.specs.Choice.{pick}
 use borrow.Author.Tests.{eq-eqb, ne_eqb}
-use borrow.Author.Rules.{rules}
 use Rattle.lines.proofs.record_line.Goals as goal
 
 pub returns-then-kind-eq-WRITE : goal.returns-then-kind-eq-WRITE

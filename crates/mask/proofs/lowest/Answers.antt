@@ -2,7 +2,6 @@
 -- Assumes nothing.
 use native.Mathlib.Omega.{arith}
 use lib.Count.{trailing_le}
-use borrow.Author.Rules.{rules}
 use Rattle.mask.proofs.lowest.Goals as goal
 
 pub overflow_cast-result : goal.overflow_cast-result

@@ -2,7 +2,6 @@
 -- Assumes nothing.
 use Rattle.rules.specs.Choice.{pick}
 use Rattle.records.specs.Records.{behind}
-use borrow.Author.Rules.{rules}
 use Rattle.records.proofs.behind_all.Goals as goal
 
 pub returns-then-ended : goal.returns-then-ended

@@ -3,7 +3,6 @@
 use Rattle.rules.specs.Choice.{pick}
 use Rattle.records.specs.Records.{memory_record}
 use borrow.Author.Tests.{lt-ltb, le-ltb}
-use borrow.Author.Rules.{rules}
 use Rattle.records.proofs.memory_record.Goals as goal
 
 pub returns-then-n-lt4 : goal.returns-then-n-lt4

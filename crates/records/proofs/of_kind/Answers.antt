@@ -3,7 +3,6 @@
 use Rattle.rules.specs.Choice.{pick}
 use Rattle.records.specs.Records.{of_kind}
 use borrow.Author.Tests.{eq-eqb, ne_eqb}
-use borrow.Author.Rules.{rules}
 use Rattle.records.proofs.of_kind.Goals as goal
 
 pub returns-then-kind-eq-WRITE : goal.returns-then-kind-eq-WRITE

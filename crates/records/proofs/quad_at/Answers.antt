@@ -1,7 +1,6 @@
 -- Two words, the high one first, each as its two bytes have it.
 -- Assumes nothing.
 use Rattle.records.proofs.BigEndian.{quad_words}
-use borrow.Author.Rules.{rules}
 use Rattle.records.proofs.quad_at.Goals as goal
 
 pub returns : goal.returns

@@ -3,7 +3,6 @@
 use Rattle.rules.specs.Choice.{pick}
 use Rattle.records.specs.Records.{record_at}
 use borrow.Author.Tests.{lt-ltb, lt-leb, le-leb, le-ltb, eq-eqb, ne_eqb}
-use borrow.Author.Rules.{rules}
 use Rattle.records.proofs.record_at.Goals as goal
 
 pub returns-then-input-place : goal.returns-then-input-place

@@ -1,7 +1,6 @@
 -- Two bytes, the high one first; their number fits sixteen bits.
 -- Assumes nothing.
 use Rattle.records.proofs.BigEndian.{word_bytes}
-use borrow.Author.Rules.{rules}
 use Rattle.records.proofs.word_at.Goals as goal
 
 pub returns : goal.returns

@@ -3,7 +3,6 @@
 use Rattle.rules.specs.Choice.{pick}
 use Rattle.records.specs.Records.{write_record}
 use borrow.Author.Tests.{eq-eqb, ne_eqb}
-use borrow.Author.Rules.{rules}
 use Rattle.records.proofs.write_record.Goals as goal
 
 pub returns-then-n-eq4 : goal.returns-then-n-eq4

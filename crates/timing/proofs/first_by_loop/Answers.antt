@@ -2,8 +2,7 @@
 -- places left.
 -- Assumes nothing.
 use Rattle.rules.proofs.Reading.{seek_end, seek_here, seek_on}
-use Rattle.rules.specs.Readback.{seek, chosen}
-use Rattle.std.proofs.Common.{◌≡◌, sym, refl, ◌∙◌, arith, rules}
+use Rattle.std.proofs.Common.{sym, refl, ◌∙◌, arith}
 use Rattle.timing.proofs.first_by_loop.Goals as goal
 
 pub loop-left-init : goal.loop-left-init

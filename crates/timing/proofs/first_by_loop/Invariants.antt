@@ -1,6 +1,5 @@
-use Rattle.rules.proofs.Reading.{seek_end, seek_here, seek_on}
 use Rattle.rules.specs.Readback.{seek, chosen}
-use Rattle.std.proofs.Common.{◌≡◌, sym, refl, ◌∙◌, arith, rules}
+use Rattle.std.proofs.Common.{◌≡◌}
 use Rattle.timing.proofs.first_by_loop.Given as goal
 
 abbrev pub invariant-loop-left : goal.invariant-loop-left

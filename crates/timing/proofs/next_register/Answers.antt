@@ -2,7 +2,7 @@
 -- Assumes nothing.
 use Rattle.rules.specs.Choice.{pick}
 use Rattle.rules.specs.Readback.{after}
-use Rattle.std.proofs.Common.{rules, le-ltb, lt-ltb}
+use Rattle.std.proofs.Common.{le-ltb, lt-ltb}
 use Rattle.timing.proofs.next_register.Goals as goal
 
 pub returns-then-k-lt6 : goal.returns-then-k-lt6

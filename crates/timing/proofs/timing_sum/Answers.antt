@@ -1,7 +1,6 @@
 -- The invariant: the sum so far and the sum of the pairs left make the whole. The measure is the number of pairs left.
 -- Assumes nothing.
-use Rattle.std.proofs.Common.{◌-◌, rules}
-use Rattle.timing.proofs.Sums.{Going, going_start, going_more, going_end}
+use Rattle.timing.proofs.Sums.{going_start, going_more, going_end}
 use Rattle.timing.proofs.timing_sum.Goals as goal
 
 pub loop-i-init : goal.loop-i-init

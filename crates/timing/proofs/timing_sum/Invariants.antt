@@ -1,5 +1,5 @@
-use Rattle.std.proofs.Common.{◌-◌, rules}
-use Rattle.timing.proofs.Sums.{Going, going_start, going_more, going_end}
+use Rattle.std.proofs.Common.{◌-◌}
+use Rattle.timing.proofs.Sums.{Going}
 use Rattle.timing.proofs.timing_sum.Given as goal
 
 abbrev pub invariant-loop-i : goal.invariant-loop-i

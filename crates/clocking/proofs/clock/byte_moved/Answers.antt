@@ -1,6 +1,5 @@
 -- Both ports are advanced, and the counter has room for one more.
 -- Assumes nothing.
-use borrow.Author.Rules.{rules}
 use Rattle.clocking.proofs.clock.byte_moved.Goals as goal
 
 pub returns : goal.returns

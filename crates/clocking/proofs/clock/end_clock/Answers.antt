@@ -3,7 +3,6 @@
 use Rattle.rules.specs.Choice.{pick}
 use Rattle.rules.specs.Clock.{clock_end}
 use borrow.Author.Tests.{lt-ltb, le-ltb}
-use borrow.Author.Rules.{rules}
 use Rattle.clocking.proofs.clock.end_clock.Goals as goal
 
 pub returns-then-n-c : goal.returns-then-n-c

@@ -2,7 +2,6 @@
 -- Assumes nothing.
 use Rattle.rules.specs.Choice.{pick}
 use Rattle.rules.specs.Clock.{slot_end}
-use borrow.Author.Rules.{rules}
 use Rattle.clocking.proofs.clock.end_slot.Goals as goal
 
 pub returns-then-restarts : goal.returns-then-restarts

@@ -3,7 +3,6 @@
 use Rattle.rules.specs.Choice.{pick}
 use Rattle.rules.specs.Clock.{moved_at}
 use borrow.Author.Tests.{eq-eqb, ne_eqb}
-use borrow.Author.Rules.{rules}
 use Rattle.clocking.proofs.clock.moved_at.Goals as goal
 
 pub returns-then-n-c : goal.returns-then-n-c

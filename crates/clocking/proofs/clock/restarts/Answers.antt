@@ -1,7 +1,6 @@
 -- The strict test is the list of tests.
 -- Assumes nothing.
 use Rattle.rules.proofs.Choice.{strict}
-use borrow.Author.Rules.{rules}
 use Rattle.clocking.proofs.clock.restarts.Goals as goal
 
 pub returns : goal.returns

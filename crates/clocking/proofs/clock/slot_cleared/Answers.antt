@@ -1,6 +1,5 @@
 -- The slot put in is the one of which no clock has elapsed.
 -- Assumes nothing.
-use borrow.Author.Rules.{rules}
 use Rattle.clocking.proofs.clock.slot_cleared.Goals as goal
 
 pub returns : goal.returns

@@ -1,7 +1,6 @@
 -- Kind, move and end are those of the definition.
 -- Assumes nothing.
 use Rattle.rules.specs.Clock.{slot_clock}
-use borrow.Author.Rules.{rules}
 use Rattle.clocking.proofs.clock.slot_clock.Goals as goal
 
 pub returns : goal.returns

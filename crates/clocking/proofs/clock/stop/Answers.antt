@@ -1,6 +1,5 @@
 -- The steps are those of the definition, one after the other.
 -- Assumes nothing.
-use borrow.Author.Rules.{rules}
 use Rattle.clocking.proofs.clock.stop.Goals as goal
 
 pub returns : goal.returns

@@ -1,6 +1,5 @@
 -- The wider number is the same.
 -- Assumes nothing.
-use borrow.Author.Rules.{rules}
 use Rattle.clocking.proofs.count.add.Goals as goal
 
 pub returns : goal.returns

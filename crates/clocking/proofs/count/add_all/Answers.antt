@@ -4,7 +4,6 @@ use Rattle.rules.specs.Choice.{pick}
 use Rattle.rules.specs.Spans.{kind_of}
 use Rattle.clocking.specs.Answers.{counted_within}
 use borrow.Author.Tests.{eq-eqb, ne_eqb}
-use borrow.Author.Rules.{rules}
 use Rattle.clocking.proofs.count.add_all.Goals as goal
 
 pub returns-then-kind-eq-BUS : goal.returns-then-kind-eq-BUS

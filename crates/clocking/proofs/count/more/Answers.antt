@@ -3,7 +3,6 @@
 use Rattle.rules.specs.Choice.{pick}
 use Rattle.clocking.specs.Answers.{added}
 use borrow.Author.Tests.{lt-leb, le-leb}
-use borrow.Author.Rules.{rules}
 use Rattle.clocking.proofs.count.more.Goals as goal
 
 pub returns-then-count-n : goal.returns-then-count-n

@@ -1,7 +1,6 @@
 -- Each branch is its choice.
 -- Assumes nothing.
 use Rattle.rules.specs.Choice.{pick}
-use borrow.Author.Rules.{rules}
 use Rattle.clocking.proofs.place.place_in.Goals as goal
 
 pub returns-then-first : goal.returns-then-first

@@ -1,7 +1,6 @@
 -- It is the place in the port that the direction names.
 -- Assumes nothing.
 use Rattle.rules.specs.Buffers.{source}
-use borrow.Author.Rules.{rules}
 use Rattle.clocking.proofs.place.source_of.Goals as goal
 
 pub returns : goal.returns

@@ -2,7 +2,6 @@
 -- Assumes nothing.
 use Rattle.rules.specs.WholeSlots.{at_slot_start}
 use Rattle.rules.proofs.Choice.{strict}
-use borrow.Author.Rules.{rules}
 use Rattle.clocking.proofs.slots.at_slot_start.Goals as goal
 
 pub returns : goal.returns

@@ -2,7 +2,6 @@
 -- Assumes nothing.
 use Rattle.rules.specs.Clock.{bus_clock}
 use Rattle.rules.proofs.Spans.{kind_of_code}
-use borrow.Author.Rules.{rules}
 use Rattle.clocking.proofs.slots.count_slots.Goals as goal
 
 pub returns : goal.returns

@@ -1,11 +1,8 @@
 -- After i of the k bytes the ports and the buffers are those of i bytes, and the strides are those of the ports' steps.
 -- Assumes nothing.
-use Prim.Native.Nat.{◌-◌}
 use native.Mathlib.Omega.{arith}
-use mathlib.Core.Path.{◌≡◌}
 use borrow.Author.Rules.{rules}
-use Rattle.rules.specs.Ports.{stride}
-use Rattle.clocking.proofs.WholeSlots.{Carrying, carrying_start, carrying_more, carrying_end, carrying_lengths}
+use Rattle.clocking.proofs.WholeSlots.{carrying_start, carrying_more, carrying_end, carrying_lengths}
 use Rattle.clocking.proofs.slots.move_bytes.Goals as goal
 
 pub loop-i-init : goal.loop-i-init

@@ -1,9 +1,7 @@
 use Prim.Native.Nat.{◌-◌}
-use native.Mathlib.Omega.{arith}
 use mathlib.Core.Path.{◌≡◌}
-use borrow.Author.Rules.{rules}
 use Rattle.rules.specs.Ports.{stride}
-use Rattle.clocking.proofs.WholeSlots.{Carrying, carrying_start, carrying_more, carrying_end, carrying_lengths}
+use Rattle.clocking.proofs.WholeSlots.{Carrying}
 use Rattle.clocking.proofs.slots.move_bytes.Given as goal
 
 abbrev pub invariant-loop-i : goal.invariant-loop-i

@@ -3,7 +3,6 @@
 use Rattle.rules.specs.Choice.{pick}
 use Rattle.rules.specs.WholeSlots.{slots_within}
 use Rattle.clocking.proofs.WholeSlots.{length_some, slots_at_start}
-use borrow.Author.Rules.{rules}
 use Rattle.clocking.proofs.slots.slots_within.Goals as goal
 
 pub nonzero_div-fitting : goal.nonzero_div-fitting

@@ -1,7 +1,6 @@
 -- The places are those of the core; nothing else is computed.
 -- Assumes nothing.
 use Rattle.rules.specs.Choice.{pick}
-use borrow.Author.Rules.{rules}
 use Rattle.clocking.proofs.span.cpu_span.Goals as goal
 
 pub returns : goal.returns

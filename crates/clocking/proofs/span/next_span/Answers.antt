@@ -3,7 +3,6 @@
 use mathlib.Core.Path.{sym, ◌∙◌}
 use borrow.Author.Tests.{not-true, not-false}
 use Rattle.clocking.proofs.Spans.{none_answers, idle_answers, may_run}
-use borrow.Author.Rules.{rules}
 use Rattle.clocking.proofs.span.next_span.Goals as goal
 
 pub returns-then-room-eq0 : goal.returns-then-room-eq0

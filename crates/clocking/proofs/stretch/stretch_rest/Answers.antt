@@ -3,7 +3,6 @@
 use Rattle.rules.specs.Stretches.{stretch_rest}
 use Rattle.rules.specs.Choice.{pick}
 use borrow.Author.Tests.{lt-ltb, le-ltb}
-use borrow.Author.Rules.{rules}
 use Rattle.clocking.proofs.stretch.stretch_rest.Goals as goal
 
 pub returns-then-s : goal.returns-then-s

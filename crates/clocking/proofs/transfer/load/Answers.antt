@@ -2,7 +2,6 @@
 -- Assumes nothing.
 use Rattle.rules.specs.Choice.{pick}
 use Rattle.rules.specs.Buffers.{byte_at}
-use borrow.Author.Rules.{rules}
 use Rattle.clocking.proofs.transfer.load.Goals as goal
 
 pub returns-then-p : goal.returns-then-p

@@ -1,7 +1,6 @@
 -- A byte that was stored is a byte that moved.
 -- Assumes nothing.
 use Rattle.clocking.proofs.Buffers.{moved_latch, moved_byte}
-use borrow.Author.Rules.{rules}
 use Rattle.clocking.proofs.transfer.move_byte.Goals as goal
 
 pub returns-then-to : goal.returns-then-to

@@ -2,7 +2,6 @@
 -- Assumes nothing.
 use Rattle.rules.specs.Choice.{pick}
 use Rattle.rules.specs.World.{buffers_after}
-use borrow.Author.Rules.{rules}
 use Rattle.clocking.proofs.transfer.move_if.Goals as goal
 
 pub returns-then-moves : goal.returns-then-moves

@@ -2,7 +2,6 @@
 -- Assumes nothing.
 use Rattle.rules.specs.Choice.{pick}
 use Rattle.rules.specs.Blocks.{block_count}
-use Rattle.std.proofs.Common.{rules}
 use Rattle.parts.proofs.block.block_count.Goals as goal
 
 pub returns-then-b : goal.returns-then-b

@@ -1,7 +1,6 @@
 -- The test is over the count that the definition gives.
 -- Assumes nothing.
 use Rattle.rules.specs.Blocks.{finished}
-use Rattle.std.proofs.Common.{rules}
 use Rattle.parts.proofs.block.is_finished.Goals as goal
 
 pub returns : goal.returns

@@ -1,6 +1,6 @@
 -- Behind the last byte there is none.
 -- Assumes nothing.
-use Rattle.std.proofs.Common.{sym, rules}
+use Rattle.std.proofs.Common.{sym}
 use lib.ListN.{get_or-eq_default}
 use Rattle.parts.proofs.bytes.byte_at.Goals as goal
 

@@ -1,6 +1,6 @@
 -- Behind the last byte nothing is stored.
 -- Assumes nothing.
-use Rattle.std.proofs.Common.{sym, rules}
+use Rattle.std.proofs.Common.{sym}
 use lib.Seq.{set_out}
 use Rattle.parts.proofs.bytes.put.Goals as goal
 

@@ -1,6 +1,5 @@
 -- The slot put in is the one of which no clock has elapsed.
 -- Assumes nothing.
-use Rattle.std.proofs.Common.{rules}
 use Rattle.parts.proofs.part.disabled.Goals as goal
 
 pub returns : goal.returns

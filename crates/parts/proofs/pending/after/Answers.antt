@@ -1,7 +1,7 @@
 -- What is next chooses between a register and a parameter; the strict test of B timing and of bit 5 is the list of tests, and a
 -- difference below 0 is 0.
 -- Assumes nothing.
-use Rattle.std.proofs.Common.{arith, rules, ne_eqb}
+use Rattle.std.proofs.Common.{arith, ne_eqb}
 use Rattle.rules.specs.Choice.{pick}
 use Rattle.rules.specs.Pending.{used_up, pending_after_as}
 use Rattle.rules.proofs.Choice.{strict}

@@ -3,7 +3,7 @@
 use Rattle.rules.specs.Choice.{pick, first_of, every}
 use Rattle.rules.specs.Selection.{selects}
 use Rattle.rules.specs.Pending.{asked}
-use Rattle.std.proofs.Common.{rules, ne_eqb}
+use Rattle.std.proofs.Common.{ne_eqb}
 use Rattle.parts.proofs.pending.after_register.Goals as goal
 
 pub returns-then-register-eq0 : goal.returns-then-register-eq0

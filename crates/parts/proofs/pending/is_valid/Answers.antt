@@ -1,6 +1,6 @@
 -- A number below 16 is WR0's; from there on the strict test is the list of tests of a divisor or of WR4's two.
 -- Assumes nothing.
-use Rattle.std.proofs.Common.{rules, lt-ltb}
+use Rattle.std.proofs.Common.{lt-ltb}
 use Rattle.rules.specs.Choice.{pick, any}
 use Rattle.rules.specs.Pending.{valid_pending}
 use Rattle.rules.proofs.Choice.{strict}

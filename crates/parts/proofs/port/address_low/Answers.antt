@@ -1,6 +1,5 @@
 -- The address is the one with its low byte replaced.
 -- Assumes nothing.
-use Rattle.std.proofs.Common.{rules}
 use Rattle.parts.proofs.port.address_low.Goals as goal
 
 pub returns : goal.returns

@@ -1,6 +1,5 @@
 -- The pointer is the stepped one.
 -- Assumes nothing.
-use Rattle.std.proofs.Common.{rules}
 use Rattle.parts.proofs.port.advance.Goals as goal
 
 pub returns : goal.returns

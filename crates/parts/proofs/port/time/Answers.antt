@@ -1,6 +1,5 @@
 -- The cycle is the one that the byte asks for.
 -- Assumes nothing.
-use Rattle.std.proofs.Common.{rules}
 use Rattle.parts.proofs.port.time.Goals as goal
 
 pub returns : goal.returns

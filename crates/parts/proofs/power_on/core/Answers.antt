@@ -1,6 +1,5 @@
 -- Every part is the one at power on.
 -- Assumes nothing.
-use Rattle.std.proofs.Common.{rules}
 use Rattle.parts.proofs.power_on.core.Goals as goal
 
 pub returns : goal.returns

@@ -1,7 +1,6 @@
 -- Each test that hits gives its number, in the order of the list.
 -- Assumes nothing.
 use Rattle.rules.specs.Choice.{first_hit, pick}
-use Rattle.std.proofs.Common.{rules}
 use Rattle.parts.proofs.refusal.speed_number.Goals as goal
 
 pub returns-then-not-valid : goal.returns-then-not-valid

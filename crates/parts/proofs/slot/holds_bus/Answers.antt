@@ -2,7 +2,6 @@
 -- Assumes nothing.
 use Rattle.rules.proofs.Choice.{strict}
 use Rattle.rules.specs.Slots.{bus_held}
-use Rattle.std.proofs.Common.{rules}
 use Rattle.parts.proofs.slot.holds_bus.Goals as goal
 
 pub returns : goal.returns

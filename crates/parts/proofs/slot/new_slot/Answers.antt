@@ -1,6 +1,5 @@
 -- The bus time is the one that the cycles and the speed make, and the length the one that it and the prescaler make.
 -- Assumes nothing.
-use Rattle.std.proofs.Common.{rules}
 use Rattle.parts.proofs.slot.new_slot.Goals as goal
 
 pub returns : goal.returns

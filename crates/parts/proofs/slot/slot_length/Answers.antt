@@ -2,7 +2,7 @@
 -- Assumes nothing.
 use Rattle.rules.specs.Choice.{pick}
 use Rattle.rules.specs.Slots.{larger, slot_length}
-use Rattle.std.proofs.Common.{rules, le-ltb, lt-ltb, eq-eqb, ne_eqb}
+use Rattle.std.proofs.Common.{le-ltb, lt-ltb, eq-eqb, ne_eqb}
 use Rattle.parts.proofs.slot.slot_length.Goals as goal
 
 pub returns-then-prescaler-eq0 : goal.returns-then-prescaler-eq0

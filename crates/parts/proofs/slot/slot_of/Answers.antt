@@ -2,7 +2,7 @@
 -- Assumes nothing.
 use Rattle.rules.specs.Slots.{slot_of}
 use Rattle.rules.specs.Choice.{pick}
-use Rattle.std.proofs.Common.{rules, eq-eqb, ne_eqb}
+use Rattle.std.proofs.Common.{eq-eqb, ne_eqb}
 use Rattle.parts.proofs.slot.slot_of.Goals as goal
 
 pub returns-then-c-eq0 : goal.returns-then-c-eq0

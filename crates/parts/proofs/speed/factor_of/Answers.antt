@@ -1,6 +1,6 @@
 -- A code within the table gives its entry; any other gives 1.
 -- Assumes nothing.
-use Rattle.std.proofs.Common.{sym, ◌∙◌, lt_of_le_of_lt, arith, rules, leb-true}
+use Rattle.std.proofs.Common.{sym, ◌∙◌}
 use Rattle.rules.specs.Speed.{factor}
 use Rattle.rules.proofs.Choice.{pick_true, pick-false}
 use Rattle.parts.proofs.speed.factor_of.Goals as goal

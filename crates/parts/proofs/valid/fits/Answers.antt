@@ -1,6 +1,6 @@
 -- Where a part of the sum is more than what is left of 64 bits the sum does not fit; else the code has compared all of it.
 -- Assumes nothing.
-use Rattle.std.proofs.Common.{sym, arith, rules, le-leb}
+use Rattle.std.proofs.Common.{sym, arith, le-leb}
 use borrow.Author.Tests.{lt-leb}
 use Rattle.rules.specs.Validity.{total, most64}
 use Rattle.parts.proofs.valid.fits.Goals as goal

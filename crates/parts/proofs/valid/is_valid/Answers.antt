@@ -3,7 +3,6 @@
 use Rattle.rules.proofs.Choice.{strict}
 use Rattle.rules.specs.Choice.{pick, every}
 use Rattle.rules.specs.Validity.{valid_if}
-use Rattle.std.proofs.Common.{rules}
 use Rattle.parts.proofs.valid.is_valid.Goals as goal
 
 pub returns-then-not-valid_core : goal.returns-then-not-valid_core

@@ -1,6 +1,6 @@
 -- A test that fails settles the list of tests; where the others hold the last one does. Those of single fields are one test.
 -- Assumes nothing.
-use Rattle.std.proofs.Common.{sym, ◌∙◌, rules}
+use Rattle.std.proofs.Common.{sym, ◌∙◌}
 use Rattle.rules.specs.Validity.{valid_slot, valid_core_if}
 use Rattle.rules.proofs.Choice.{holds, fails, every_at}
 use Rattle.parts.proofs.Validity.{fields_fail, progress_settles, progress_test}

@@ -1,6 +1,6 @@
 -- With no clock elapsed the slot rests, else it runs; the strict tests are the lists of tests.
 -- Assumes nothing.
-use Rattle.std.proofs.Common.{rules, eq-eqb, ne_eqb}
+use Rattle.std.proofs.Common.{eq-eqb, ne_eqb}
 use Rattle.rules.specs.Choice.{pick}
 use Rattle.rules.specs.Validity.{resting_slot, valid_length, running_slot, valid_slot}
 use Rattle.rules.proofs.Choice.{strict}

@@ -1,6 +1,5 @@
 -- By whether a parameter is next.
 -- Assumes nothing.
-use Rattle.std.proofs.Common.{rules}
 use Rattle.parts.proofs.warning.of.Goals as goal
 
 pub returns-then-parameter-eq-NOTHING : goal.returns-then-parameter-eq-NOTHING

@@ -1,6 +1,5 @@
 -- Where nothing is next, the row of the timing is passed by; the strict tests are the lists of tests.
 -- Assumes nothing.
-use Rattle.std.proofs.Common.{rules}
 use Rattle.rules.specs.Choice.{pick, first_of}
 use Rattle.rules.specs.Warnings.{warning_as}
 use Rattle.rules.proofs.Choice.{strict}

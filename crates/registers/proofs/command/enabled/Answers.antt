@@ -2,7 +2,6 @@
 -- Assumes nothing.
 use Rattle.rules.specs.Choice.{pick}
 use Rattle.rules.specs.Commands.{enable}
-use borrow.Author.Rules.{rules}
 use Rattle.registers.proofs.command.enabled.Goals as goal
 
 pub returns-then-c : goal.returns-then-c

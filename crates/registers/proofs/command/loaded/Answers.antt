@@ -1,6 +1,5 @@
 -- The calls one after the other are the definition.
 -- Assumes nothing.
-use borrow.Author.Rules.{rules}
 use Rattle.registers.proofs.command.loaded.Goals as goal
 
 pub returns : goal.returns

@@ -3,7 +3,6 @@
 use Rattle.rules.specs.Choice.{pick, first_of}
 use Rattle.rules.specs.Commands.{command}
 use borrow.Author.Tests.{ne_eqb}
-use borrow.Author.Rules.{rules}
 use Rattle.registers.proofs.command.obey.Goals as goal
 
 pub returns-then-byte-eq195 : goal.returns-then-byte-eq195

@@ -3,7 +3,6 @@
 use Rattle.rules.specs.Commands.{reading_command}
 use Rattle.rules.specs.Choice.{pick, first_of}
 use borrow.Author.Tests.{ne_eqb}
-use borrow.Author.Rules.{rules}
 use Rattle.registers.proofs.command.reading_command.Goals as goal
 
 pub returns-then-byte-eq139 : goal.returns-then-byte-eq139

@@ -1,6 +1,5 @@
 -- The calls one after the other put together the core after a reset.
 -- Assumes nothing.
-use borrow.Author.Rules.{rules}
 use Rattle.registers.proofs.command.reset_all.Goals as goal
 
 pub returns : goal.returns

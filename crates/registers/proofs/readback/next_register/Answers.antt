@@ -3,7 +3,6 @@
 use Rattle.rules.specs.Choice.{pick}
 use Rattle.rules.specs.Readback.{after}
 use borrow.Author.Tests.{lt-ltb, le-ltb}
-use borrow.Author.Rules.{rules}
 use Rattle.registers.proofs.readback.next_register.Goals as goal
 
 pub returns-then-k-lt6 : goal.returns-then-k-lt6

@@ -3,7 +3,6 @@
 use Rattle.rules.specs.Choice.{pick, first_of}
 use Rattle.rules.specs.Readback.{read_byte}
 use borrow.Author.Tests.{eq-eqb, ne_eqb}
-use borrow.Author.Rules.{rules}
 use Rattle.registers.proofs.readback.read.Goals as goal
 
 pub returns-then-c : goal.returns-then-c

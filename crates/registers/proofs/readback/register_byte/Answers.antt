@@ -3,7 +3,6 @@
 use Rattle.rules.specs.Choice.{pick, first_of}
 use Rattle.rules.specs.Readback.{register_byte}
 use borrow.Author.Tests.{ne_eqb}
-use borrow.Author.Rules.{rules}
 use Rattle.registers.proofs.readback.register_byte.Goals as goal
 
 pub returns-then-k-eq0 : goal.returns-then-k-eq0

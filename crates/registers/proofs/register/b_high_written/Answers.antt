@@ -1,6 +1,5 @@
 -- The call gives the new part, and the core takes it.
 -- Assumes nothing.
-use borrow.Author.Rules.{rules}
 use Rattle.registers.proofs.register.b_high_written.Goals as goal
 
 pub returns : goal.returns

@@ -3,7 +3,6 @@
 use borrow.Author.Tests.{ne_eqb}
 use Rattle.rules.specs.Choice.{pick}
 use Rattle.rules.specs.Registers.{carried_out_as}
-use borrow.Author.Rules.{rules}
 use Rattle.registers.proofs.register.carry_out.Goals as goal
 
 pub returns-then-which-ne-NOTHING : goal.returns-then-which-ne-NOTHING

@@ -1,6 +1,5 @@
 -- The calls one after the other are the definition.
 -- Assumes nothing.
-use borrow.Author.Rules.{rules}
 use Rattle.rules.specs.Registers.{effect_over}
 use Rattle.registers.proofs.register.take_effect.Goals as goal
 

@@ -3,7 +3,6 @@
 use Rattle.rules.specs.Choice.{pick, first_of}
 use Rattle.rules.specs.Registers.{parameter}
 use borrow.Author.Tests.{ne_eqb}
-use borrow.Author.Rules.{rules}
 use Rattle.registers.proofs.register.write_parameter.Goals as goal
 
 pub returns-then-which-eq-A_LOW : goal.returns-then-which-eq-A_LOW

@@ -1,7 +1,6 @@
 -- A number chooses its row; any other passes all rows by.
 -- Assumes nothing.
 use borrow.Author.Tests.{ne_eqb}
-use borrow.Author.Rules.{rules}
 use Rattle.rules.specs.Choice.{pick, first_of}
 use Rattle.rules.specs.Registers.{register}
 use Rattle.registers.proofs.register.write_register.Goals as goal

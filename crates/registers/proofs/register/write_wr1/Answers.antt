@@ -1,7 +1,6 @@
 -- The call gives the new part, and the core takes it.
 -- Assumes nothing.
 use Rattle.rules.specs.Choice.{pick}
-use borrow.Author.Rules.{rules}
 use Rattle.registers.proofs.register.write_wr1.Goals as goal
 
 pub returns : goal.returns

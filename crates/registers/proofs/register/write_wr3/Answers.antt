@@ -3,7 +3,6 @@
 use Rattle.rules.specs.Choice.{pick}
 use Rattle.rules.specs.Registers.{wr3}
 use borrow.Author.Tests.{eq-eqb, ne_eqb}
-use borrow.Author.Rules.{rules}
 use Rattle.registers.proofs.register.write_wr3.Goals as goal
 
 pub returns-then-byte-eq1 : goal.returns-then-byte-eq1

@@ -1,7 +1,6 @@
 -- Each kind of record is an entry, and the entry's effect is the call's own answer.
 -- Assumes nothing.
 use Rattle.session.proofs.Effects.{carried_write, carried_read, carried_grant, carried_memory, carried_none}
-use Rattle.std.proofs.Common.{rules}
 use Rattle.session.proofs.effect.carry_out.Goals as goal
 
 pub returns-then-found-eq-WRITE : goal.returns-then-found-eq-WRITE

@@ -1,8 +1,7 @@
 -- The bytes of a memory record go into memory one by one: what is left to be put, put into the memory as it is, makes of it
 -- what all of them make of the memory as it was.
 -- Assumes nothing.
-use Rattle.std.proofs.Common.{◌-◌, arith, rules}
-use Rattle.session.proofs.Effects.{Poking, poking_start, poking_more, poking_end}
+use Rattle.session.proofs.Effects.{poking_start, poking_more, poking_end}
 use Rattle.session.proofs.effect.poke.Goals as goal
 
 pub loop-at-init : goal.loop-at-init

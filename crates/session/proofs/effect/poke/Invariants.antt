@@ -1,5 +1,5 @@
-use Rattle.std.proofs.Common.{◌-◌, arith, rules}
-use Rattle.session.proofs.Effects.{Poking, poking_start, poking_more, poking_end}
+use Rattle.std.proofs.Common.{◌-◌}
+use Rattle.session.proofs.Effects.{Poking}
 use Rattle.session.proofs.effect.poke.Given as goal
 
 abbrev pub invariant-loop-at : goal.invariant-loop-at

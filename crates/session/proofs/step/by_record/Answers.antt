@@ -2,7 +2,7 @@
 -- Assumes nothing.
 use Rattle.rules.specs.Choice.{pick}
 use Rattle.session.specs.Steps.{by_record}
-use Rattle.std.proofs.Common.{rules, eq-eqb, ne_eqb, le-leb}
+use Rattle.std.proofs.Common.{eq-eqb, ne_eqb, le-leb}
 use borrow.Author.Tests.{lt-leb}
 use Rattle.session.proofs.step.by_record.Goals as goal
 

@@ -1,7 +1,6 @@
 -- The record's effect, and the line of what it was answered.
 -- Assumes nothing.
 use Rattle.session.proofs.Steps.{carried_put}
-use Rattle.std.proofs.Common.{rules}
 use Rattle.session.proofs.step.carry.Goals as goal
 
 pub returns : goal.returns

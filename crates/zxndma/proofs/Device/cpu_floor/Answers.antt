@@ -1,6 +1,5 @@
 -- The answer is the one that the floor of core and clock counts promises.
 -- Assumes nothing.
-use borrow.Author.Rules.{rules}
 use Rattle.zxndma.proofs.Device.cpu_floor.Goals as goal
 
 pub returns : goal.returns

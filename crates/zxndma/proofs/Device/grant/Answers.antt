@@ -4,7 +4,6 @@ use Rattle.rules.proofs.Calls.{grant_accepts, grant_refuses}
 use Rattle.rules.specs.Buffers.{flat}
 use Rattle.rules.specs.Refusals.{grant_refusal_if}
 use mathlib.Core.Path.{sym, ◌∙◌}
-use borrow.Author.Rules.{rules}
 use Rattle.zxndma.proofs.Device.grant.Goals as goal
 
 pub spend-device-requires : goal.spend-device-requires

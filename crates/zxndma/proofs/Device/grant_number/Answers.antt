@@ -7,7 +7,6 @@ use Rattle.rules.proofs.Calls.{valid_fits}
 use borrow.Author.Tests.{eq-eqb, ne_eqb}
 use native.Mathlib.Omega.{arith}
 use Rattle.rules.proofs.Choice.{holds}
-use borrow.Author.Rules.{rules}
 use Rattle.zxndma.proofs.Device.grant_number.Goals as goal
 
 pub returns-then-not-is_valid : goal.returns-then-not-is_valid

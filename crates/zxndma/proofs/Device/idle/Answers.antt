@@ -2,7 +2,6 @@
 -- Assumes nothing.
 use Rattle.rules.specs.Clock.{cpu_clock}
 use Rattle.rules.proofs.Spans.{kind_of_code}
-use borrow.Author.Rules.{rules}
 use Rattle.zxndma.proofs.Device.idle.Goals as goal
 
 pub returns : goal.returns

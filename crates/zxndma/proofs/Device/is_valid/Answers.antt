@@ -1,6 +1,5 @@
 -- The answer is the one that the test of core and clock counts promises.
 -- Assumes nothing.
-use borrow.Author.Rules.{rules}
 use Rattle.zxndma.proofs.Device.is_valid.Goals as goal
 
 pub returns : goal.returns

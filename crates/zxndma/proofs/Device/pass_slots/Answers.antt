@@ -3,7 +3,6 @@
 use native.Mathlib.Omega.{arith}
 use Rattle.rules.proofs.Turns.{ready_counter}
 use Rattle.zxndma.proofs.Turns.{slots_fit, slots_put, slots_left}
-use borrow.Author.Rules.{rules}
 use Rattle.zxndma.proofs.Device.pass_slots.Goals as goal
 
 pub overflow_cast-rest : goal.overflow_cast-rest

@@ -1,7 +1,6 @@
 -- A span is its clocks.
 -- Assumes nothing.
 use Rattle.zxndma.proofs.Turns.{span_left, span_passed_lem}
-use borrow.Author.Rules.{rules}
 use Rattle.zxndma.proofs.Device.pass_span.Goals as goal
 
 pub overflow_sub-result : goal.overflow_sub-result

@@ -1,6 +1,5 @@
 -- Core and clock counts are those at power on.
 -- Assumes nothing.
-use borrow.Author.Rules.{rules}
 use Rattle.zxndma.proofs.Device.power_on.Goals as goal
 
 pub returns : goal.returns

@@ -5,7 +5,6 @@ use Rattle.rules.specs.Choice.{pick}
 use Rattle.rules.specs.Refusals.{access_refusal_if}
 use Rattle.rules.specs.Calls.{unless_refused, read_reply_over}
 use borrow.Author.Tests.{eq-eqb, ne_eqb}
-use borrow.Author.Rules.{rules}
 use Rattle.zxndma.proofs.Device.read.Goals as goal
 
 pub returns-then-number-eq0 : goal.returns-then-number-eq0

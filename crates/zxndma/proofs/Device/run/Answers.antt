@@ -2,8 +2,8 @@
 -- Assumes nothing.
 use borrow.Author.Rules.{rules}
 use Rattle.rules.specs.Buffers.{flat}
-use Rattle.rules.proofs.Turns.{Going, going_ready, going_more, going_end}
-use Rattle.zxndma.proofs.Turns.{made, grant_starts, going_lengths}
+use Rattle.rules.proofs.Turns.{going_ready, going_more, going_end}
+use Rattle.zxndma.proofs.Turns.{grant_starts, going_lengths}
 use Rattle.zxndma.proofs.Device.run.Goals as goal
 
 pub loop-left-init : goal.loop-left-init

@@ -1,7 +1,6 @@
-use borrow.Author.Rules.{rules}
 use Rattle.rules.specs.Buffers.{flat}
-use Rattle.rules.proofs.Turns.{Going, going_ready, going_more, going_end}
-use Rattle.zxndma.proofs.Turns.{made, grant_starts, going_lengths}
+use Rattle.rules.proofs.Turns.{Going}
+use Rattle.zxndma.proofs.Turns.{made}
 use Rattle.zxndma.proofs.Device.run.Given as goal
 
 abbrev pub invariant-loop-left : goal.invariant-loop-left

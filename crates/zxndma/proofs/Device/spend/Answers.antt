@@ -2,7 +2,6 @@
 -- Assumes nothing.
 use borrow.Author.Tests.{not-true, not-false}
 use Rattle.zxndma.proofs.Turns.{idle_spent, wait_spent}
-use borrow.Author.Rules.{rules}
 use Rattle.zxndma.proofs.Device.spend.Goals as goal
 
 pub returns-then-not-self : goal.returns-then-not-self

@@ -1,7 +1,6 @@
 -- Whole slots are as many clocks of the definition, and so is a span.
 -- Assumes nothing.
 use Rattle.zxndma.proofs.Turns.{slots_passed_lem}
-use borrow.Author.Rules.{rules}
 use Rattle.zxndma.proofs.Device.turn.Goals as goal
 
 pub returns-then-slots-gt0 : goal.returns-then-slots-gt0

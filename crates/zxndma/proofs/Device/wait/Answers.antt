@@ -1,7 +1,6 @@
 -- The slot is the one given, and its kind is the one counted.
 -- Assumes nothing.
 use Rattle.rules.proofs.Spans.{kind_of_code}
-use borrow.Author.Rules.{rules}
 use Rattle.zxndma.proofs.Device.wait.Goals as goal
 
 pub returns : goal.returns

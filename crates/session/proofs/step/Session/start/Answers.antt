@@ -1,7 +1,6 @@
 -- The device is the one of power-on.
 -- Assumes nothing.
 use Rattle.rules.specs.Choice.{pick}
-use Rattle.std.proofs.Common.{rules}
 use Rattle.session.proofs.step.Session.start.Goals as goal
 
 pub returns : goal.returns

@@ -1,6 +1,6 @@
 -- By the room for a line and the phase, as the definition has it; every line fits into the room.
 -- Assumes nothing.
-use Rattle.std.proofs.Common.{sym, ap, ◌∙◌, rules, le-ltb, lt-ltb, eq-eqb, ne_eqb}
+use Rattle.std.proofs.Common.{sym, ap, ◌∙◌, le-ltb, lt-ltb, eq-eqb, ne_eqb}
 use Rattle.session.specs.Steps.{buffers_kept}
 use Rattle.session.proofs.Steps.{nothing_said, without_room, at_version_lem, at_record_lem, at_long, at_over, with_room}
 use Rattle.session.proofs.step.Session.step.Goals as goal
