@@ -12,7 +12,7 @@ ghost use Rattle.bench.specs.Turning.{AreLines, Refilled, Turned, Ran};
 use session::step;
 use session::step::{Session, Step};
 use std::io;
-use std::io::{Read, Write};
+use std::io::{ErrorKind, Read, Write};
 
 // Where the program is.
 #[derive(Clone, Copy)]
@@ -55,7 +55,11 @@ fn flush<R: Print + Eprint>(
     match io::writer(rt).write_all(&output[0..filled]) {
         Ok(()) => true,
         Err(why) => {
-            say(rt, "write the lines", &why);
+            match why.kind() {
+                // Nobody reads on: the program stops without a word.
+                ErrorKind::BrokenPipe => {}
+                _ => say(rt, "write the lines", &why),
+            }
             false
         }
     }

@@ -101,7 +101,8 @@ pub fn end_slot(c: Core) -> Core
     ensures { result ≡ (slot_end c).core }
 {
     let b = c.block;
-    if block::is_finished(b) {
+    let finished = block::is_finished(b);
+    if finished {
         if restarts(c) {
             return restart(c);
         }

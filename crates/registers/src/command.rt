@@ -25,7 +25,8 @@ pub fn enabled(c: Core) -> Core
         return c;
     }
     let b = c.block;
-    if block::is_finished(b) {
+    let finished = block::is_finished(b);
+    if finished {
         return block_ended(c);
     }
     let mut next = c;

@@ -7,14 +7,14 @@ use Rattle.clocking.proofs.clock.end_slot.Goals as goal
 pub returns-then-restarts : goal.returns-then-restarts
 unfolding slot_end pick
 returns-then-restarts c =
-    simp (c.if-is_finished.true, c.if-restarts.true, ← c.is_finished.ensures, ← c.restarts.ensures, c.restart.ensures)
+    simp (c.if-finished.true, c.if-restarts.true, ← c.is_finished-finished.ensures, ← c.restarts.ensures, c.restart.ensures)
 
-pub returns-then-is_finished : goal.returns-then-is_finished
+pub returns-then-finished : goal.returns-then-finished
 unfolding slot_end pick
-returns-then-is_finished c =
-    simp (c.if-is_finished.true, c.if-restarts.false, ← c.is_finished.ensures, ← c.restarts.ensures, c.stop.ensures)
+returns-then-finished c =
+    simp (c.if-finished.true, c.if-restarts.false, ← c.is_finished-finished.ensures, ← c.restarts.ensures, c.stop.ensures)
 
 pub returns : goal.returns
 unfolding slot_end pick
 returns c =
-    simp (c.if-is_finished.false, ← c.is_finished.ensures, c.slot_cleared.ensures)
+    simp (c.if-finished.false, ← c.is_finished-finished.ensures, c.slot_cleared.ensures)

@@ -9,12 +9,12 @@ unfolding enable pick
 returns-then-c c =
     simp c.if-c.true
 
-pub returns-then-is_finished : goal.returns-then-is_finished
+pub returns-then-finished : goal.returns-then-finished
 unfolding enable pick
-returns-then-is_finished c =
-    simp (c.if-c.false, c.if-is_finished.true, ← c.is_finished.ensures, c.block_ended.ensures)
+returns-then-finished c =
+    simp (c.if-c.false, c.if-finished.true, ← c.is_finished-finished.ensures, c.block_ended.ensures)
 
 pub returns : goal.returns
 unfolding enable pick
 returns c =
-    simp (c.if-c.false, c.if-is_finished.false, ← c.is_finished.ensures)
+    simp (c.if-c.false, c.if-finished.false, ← c.is_finished-finished.ensures)
