@@ -14,7 +14,7 @@ import re
 import sys
 
 TOKEN = re.compile(r"[^\s(){};,:]+")
-DECLARED = re.compile(r"^\s*(?:abbrev |unfoldable )?(?:pub )?((?:[^\s(){};,:]+ )*[^\s(){};,:]+)\s*:\s", re.M)
+DECLARED = re.compile(r"^\s*(?:abbrev |unfoldable )?(?:pub )?((?:[^\s(){};,:\"]+ )*[^\s(){};,:\"]+)(?: \{[^}]*\})?\s*:\s", re.M)
 # Bound names that are spelled in two ways beside the definitions.
 LOCALS = ["fromIo", "toIo"]
 
@@ -37,8 +37,8 @@ def antt_files():
 
 
 def by_hand(path):
-    """A proof that walks a function's code: its names are the goals'."""
-    return os.path.basename(path) == "Proof.antt"
+    """A proof of a function: its names are the goals'."""
+    return os.path.basename(path) in ("Proof.antt", "Answers.antt", "Invariants.antt") and "/proofs/" in path
 
 
 def uncommented(text):
@@ -108,7 +108,8 @@ def turned(text, to, dashes, walk=False):
         code, mark, comment = line.partition("--")
         if line.lstrip().startswith("//"):
             code, mark, comment = "", line, ""
-        code = TOKEN.sub(one, code)
+        # What stands between quotes is text.
+        code = "".join(part if k % 2 else TOKEN.sub(one, part) for k, part in enumerate(re.split(r"(\"[^\"]*\")", code)))
         if mark:
             words = mark + comment
             words = re.sub(r"\b[a-z][a-z0-9]*(?:[A-Z][A-Za-z0-9]*)+\b", lambda m: to.get(m[0], m[0]), words)

@@ -11,7 +11,7 @@ use lib.Dec.{eqb}
 use lib.ListN.{length, take, drop, length-drop}
 use Rattle.rules.specs.Choice.{pick}
 use Rattle.rules.specs.Buffers.{Buffers}
-use Rattle.rules.proofs.Choice.{pick-both, pick-ap, pick-cases, pick_true}
+use Rattle.rules.proofs.Choice.{pick_both, pick_ap, pick_cases, pick_true}
 use Rattle.session.specs.Steps.{Said, Outcome, version_step, long_step, by_record, record_step, step_of}
 use Rattle.runs.specs.Stepping.{line_in}
 use Rattle.runs.specs.Moving.{farther}
@@ -33,31 +33,31 @@ module _ (s : Session) (xs : List ℕ) (p : ℕ) (ended : Bool) (out : List ℕ)
   bare_version = let
       P : Said → Type 0 = λ (x : Said). Bare (record { said = x; buffers = b })
       in
-      pick-both P _ _ _ (pick-both P ended _ _ (λ e. absurd (omega (arith, e))) (λ e. refl))
-      (pick-both P _ _ _ (λ e. refl) (λ e. absurd (omega (arith, e))))
+      pick_both P _ _ _ (pick_both P ended _ _ (λ e. absurd (omega (arith, e))) (λ e. refl))
+      (pick_both P _ _ _ (λ e. refl) (λ e. absurd (omega (arith, e))))
 
   bare_long : Bare (record { said = long_step s xs p ended out; buffers = b })
   unfolding long_step Bare
   bare_long = let
       P : Said → Type 0 = λ (x : Said). Bare (record { said = x; buffers = b })
       in
-      pick-both P _ _ _ (λ e. absurd (omega (arith, e))) (pick-both P ended _ _ (λ e. absurd (omega (arith, e))) (λ e. refl))
+      pick_both P _ _ _ (λ e. absurd (omega (arith, e))) (pick_both P ended _ _ (λ e. absurd (omega (arith, e))) (λ e. refl))
 
   bare_record : Bare (record_step s xs p ended out b)
   unfolding record_step by_record Bare
   bare_record =
-      pick-both Bare _ _ _
-      (pick-both Bare _ _ _ (λ e. refl)
-      (pick-both Bare _ _ _ (λ e. absurd (omega (arith, e)))
-      (pick-both Bare _ _ _ (λ e. absurd (omega (arith, e))) (λ e. absurd (omega (arith, e))))))
+      pick_both Bare _ _ _
+      (pick_both Bare _ _ _ (λ e. refl)
+      (pick_both Bare _ _ _ (λ e. absurd (omega (arith, e)))
+      (pick_both Bare _ _ _ (λ e. absurd (omega (arith, e))) (λ e. absurd (omega (arith, e))))))
       (λ e. refl)
 
   step_bare : (step_of s xs p ended out b).said.step.progress ≡ 1 → (step_of s xs p ended out b).said.step.length ≡ 0
   unfolding step_of Bare
   step_bare =
-      pick-both Bare _ _ _ (λ e. refl)
-      (pick-both Bare _ _ _ bare_version
-      (pick-both Bare _ _ _ bare_record (pick-both Bare _ _ _ bare_long (λ e. refl))))
+      pick_both Bare _ _ _ (λ e. refl)
+      (pick_both Bare _ _ _ bare_version
+      (pick_both Bare _ _ _ bare_record (pick_both Bare _ _ _ bare_long (λ e. refl))))
 
 -- ---- the bytes before the place
 
@@ -84,7 +84,7 @@ moves (suc n) s xs k p ended out b = let
     ∙ ap
     (λ (g : Gathered). pick (eqb o.said.step.progress 0) (lines_before (line_in o) g) (gathered_once (farther k o)))
     (moves n o.said.step.session xs k o.said.step.next ended (behind_line o) o.buffers)
-    ∙ sym (pick-ap (place_farther k) (eqb o.said.step.progress 0) _ _)
+    ∙ sym (pick_ap (place_farther k) (eqb o.said.step.progress 0) _ _)
 
 -- ---- more bytes
 
@@ -134,7 +134,7 @@ module _ (xs ys : List ℕ) (ended : Bool) where
   follows (suc n) s p out b = let
       o : Outcome = step_of s xs p false out b
       in
-      pick-cases (Follows s p out b) (eqb o.said.step.progress 0) _ _
+      pick_cases (Follows s p out b) (eqb o.said.step.progress 0) _ _
       (λ q. going s p out b _ (eqb-true o.said.step.progress 0 q) (follows n o.said.step.session o.said.step.next (behind_line o) o.buffers))
       (λ q. waiting s p out b)
 

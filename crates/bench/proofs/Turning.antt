@@ -11,7 +11,7 @@ use lib.ListN.{length, take, drop, replicate, length-take, length-append}
 use lib.Seq.{take-append_seam, take_at, take-append-le, take-append-add, length-take-le, length-slice}
 use Rattle.rules.specs.Choice.{pick}
 use Rattle.rules.specs.Buffers.{Buffers}
-use Rattle.rules.proofs.Choice.{pick_true, pick-false}
+use Rattle.rules.proofs.Choice.{pick_true, pick_false}
 use Rattle.clocking.specs.Answers.{borrowed}
 use Rattle.session.specs.Steps.{session_at_start}
 use Rattle.session.specs.declared.step.Session.{Session}
@@ -128,7 +128,7 @@ module _ (s : State) (input output : List ℕ) (b : Buffers (List ℕ)) (fits : 
     pub turned_on : (w.progress ≡ 1 → ⊥) → Turned s (gathered_in s input output b) input (state_of s s.stopped (left w o m l)) input o (borrowed m l)
     unfolding NextTurn pick
     turned_on k =
-        turned (state_of s s.stopped) true (shown (pick-false _ _ _ goes) (shown (pick-false _ _ _ (ne_eqb _ 1 (λ q. k (last_progress ∙ q)))) (refl, refl))) fits
+        turned (state_of s s.stopped) true (shown (pick_false _ _ _ goes) (shown (pick_false _ _ _ (ne_eqb _ 1 (λ q. k (last_progress ∙ q)))) (refl, refl))) fits
 
     pub turned_more : {r : State} {input' : List ℕ} → w.progress ≡ 1 → Refilled (state_of s s.stopped (left w o m l)) input r input' → Turned s (gathered_in s input output b) input r input' o (borrowed m l)
     unfolding NextTurn pick
@@ -136,7 +136,7 @@ module _ (s : State) (input output : List ℕ) (b : Buffers (List ℕ)) (fits : 
         more : Refilled (state_of s s.stopped (left_by (gathered_in s input output b))) input r input' =
         subst (λ (x : Left). Refilled (state_of s s.stopped x) input r input') e f
         in
-        turned (λ x. r) true (shown (pick-false _ _ _ goes) (shown (pick_true _ _ _ (eq-eqb _ 1 (sym last_progress ∙ k))) more)) (refilled_fits f)
+        turned (λ x. r) true (shown (pick_false _ _ _ goes) (shown (pick_true _ _ _ (eq-eqb _ 1 (sym last_progress ∙ k))) more)) (refilled_fits f)
 
 -- ---- the run
 

@@ -12,7 +12,7 @@ use lib.ListN.{length, take, drop, length-drop, take-append-drop, drop_of_length
 use lib.Seq.{take_all, length-take-le, take-append-add, drop-append-add}
 use Rattle.rules.specs.Choice.{pick}
 use Rattle.rules.specs.Buffers.{Buffers}
-use Rattle.rules.proofs.Choice.{pick-ap, pick_true, pick-false, pick-cases}
+use Rattle.rules.proofs.Choice.{pick_ap, pick_true, pick_false, pick_cases}
 use Rattle.clocking.specs.Answers.{borrowed}
 use Rattle.session.specs.Steps.{Outcome, step_of, outcome}
 use Rattle.runs.specs.Stepping.{line_in}
@@ -69,7 +69,7 @@ module _ (xs : List ℕ) (ended : Bool) where
   unfolding gathered_from
   once zero s p out b h = refl
   once (suc n) s p out b h =
-      pick-false _ _ _
+      pick_false _ _ _
       (ne_eqb _ 0
       (λ e. let t : Taken xs p (step_of s xs p ended out b).said.step.next = step_takes s xs p ended out b e in omega arith))
 
@@ -97,7 +97,7 @@ module _ (xs : List ℕ) (ended : Bool) where
   stops (suc n) s p out b h = let
       o : Outcome = step_of s xs p ended out b
       in
-      pick-cases (λ (g : Gathered). g.progress ≡ 0 → ⊥) (eqb o.said.step.progress 0) _ _
+      pick_cases (λ (g : Gathered). g.progress ≡ 0 → ⊥) (eqb o.said.step.progress 0) _ _
       (λ q. let
       t : Taken xs p o.said.step.next = step_takes s xs p ended out b (eqb-true _ 0 q)
       in
@@ -127,7 +127,7 @@ module _ (xs : List ℕ) (ended : Bool) where
       o : Outcome = step_of s xs p ended out b
       in
       let more : Gathered = gathered o.said.step.session xs o.said.step.next ended (behind_line o) o.buffers in
-      pick-ap (lines_before (line_in o)) (eqb o.said.step.progress 0) _ _
+      pick_ap (lines_before (line_in o)) (eqb o.said.step.progress 0) _ _
       ∙ ap
       (λ (x : List ℕ). pick (eqb o.said.step.progress 0) (lines_before (line_in o) more) (with_lines (gathered_once o) x))
       (append-nil (line_in o))
@@ -194,7 +194,7 @@ module _ (xs : List ℕ) (ended : Bool) where
         going_less = let
             all : to_go xs progress p ≡ suc (length xs - p) = pick_true _ _ _ (eq-eqb progress 0 goes)
             in
-            pick-cases (λ (k : ℕ). k < to_go xs progress p) (eqb r.progress 0) _ _
+            pick_cases (λ (k : ℕ). k < to_go xs progress p) (eqb r.progress 0) _ _
             (λ q. let
             t : Taken xs p r.next =
             subst (λ (x : Outcome). x.said.step.progress ≡ 0 → Taken xs p x.said.step.next) (sym e.0)
@@ -214,7 +214,7 @@ module _ (xs : List ℕ) (ended : Bool) where
           lines : List ℕ = take filled output
           in
           sym
-          (sym (ap left_by (ap (lines_before lines) (sym (pick-false _ _ _ (ne_eqb progress 0 stops))) ∙ w.all))
+          (sym (ap left_by (ap (lines_before lines) (sym (pick_false _ _ _ (ne_eqb progress 0 stops))) ∙ w.all))
           ∙ ap (λ (x : List ℕ). answer (length x) (x ++ drop filled output)) (append-nil lines)
           ∙ ap (λ (k : ℕ). answer k (lines ++ drop filled output)) (length-take-le filled output w.fits)
           ∙ ap (answer filled) (take-append-drop filled output))

@@ -11,7 +11,7 @@ use Rattle.rules.specs.World.{System, buffers_after, clocked}
 use Rattle.rules.specs.WholeSlots.{moved_by, transferred}
 use Rattle.rules.specs.declared.Place.{Place}
 use Rattle.rules.specs.declared.Core.{Core}
-use Rattle.rules.proofs.Choice.{pick_true, pick-false, pick-both}
+use Rattle.rules.proofs.Choice.{pick_true, pick_false, pick_both}
 use Rattle.rules.proofs.World.{clocked_keeps}
 use Rattle.clocking.specs.Answers.{borrowed}
 
@@ -22,7 +22,7 @@ module _ (m l : List ℕ) (from to : Place) {byte : ℕ} (e : byte ≡ byte_at f
 
   pub moved_byte : {m' : List ℕ} → to.io ≡ false → m' ≡ set m to.address byte → borrowed m' l ≡ transfer flat from to (borrowed m l)
   unfolding put
-  moved_byte io s = ap (λ (x : List ℕ). borrowed x l) (s ∙ ap (set m to.address) e) ∙ sym (pick-false _ _ _ io)
+  moved_byte io s = ap (λ (x : List ℕ). borrowed x l) (s ∙ ap (set m to.address) e) ∙ sym (pick_false _ _ _ io)
 
 -- ---- lengths
 
@@ -40,7 +40,7 @@ then p q = record { memory = p.memory ∙ q.memory; latches = p.latches ∙ q.la
 put_lengths : (p : Place) (byte : ℕ) (b : Buffers (List ℕ)) → AsLong (put flat p byte b) b
 unfolding put
 put_lengths p byte b =
-    pick-both (λ (x : Buffers (List ℕ)). AsLong x b) _ _ _
+    pick_both (λ (x : Buffers (List ℕ)). AsLong x b) _ _ _
     (record { memory = refl; latches = length-set b.latches _ _ })
     (record { memory = length-set b.memory _ _; latches = refl })
 
@@ -53,5 +53,5 @@ pub clocked_lengths : (n : ℕ) (s : System (List ℕ)) → AsLong (clocked flat
 unfolding buffers_after
 clocked_lengths n s =
     clocked_keeps flat (λ (t : System (List ℕ)). AsLong t.world.buffers s.world.buffers)
-    (λ t h. then (pick-both (λ (x : Buffers (List ℕ)). AsLong x t.world.buffers) (clock_of t.world.core).moves _ _ (put_lengths _ _ _) (as_long _)) h)
+    (λ t h. then (pick_both (λ (x : Buffers (List ℕ)). AsLong x t.world.buffers) (clock_of t.world.core).moves _ _ (put_lengths _ _ _) (as_long _)) h)
     n s (as_long s.world.buffers)

@@ -18,7 +18,7 @@ use Rattle.rules.specs.declared.Place.{Place}
 use Rattle.rules.specs.declared.Slot.{Slot}
 use Rattle.rules.specs.declared.Core.{Core}
 use Rattle.rules.specs.declared.Span.{Span}
-use Rattle.rules.proofs.Choice.{pick_true, pick-cases}
+use Rattle.rules.proofs.Choice.{pick_true, pick_cases}
 use Rattle.rules.proofs.Validity.{valid_bounded}
 use Rattle.rules.proofs.Spans.{span_none}
 use Rattle.rules.proofs.Stretches.{Least, least_facts, slot_elapsed, rest_facts, next_span, next_longest, idle_span, idle_longest}
@@ -35,9 +35,9 @@ Roomy c = (c.block.counter < 4294967295) × (c.slot.elapsed < 65535)
 roomy : (c : Core) (budget : ℕ) → (room_for c budget ≡ 0 → ⊥) → Roomy c
 unfolding room_for
 roomy c budget =
-    pick-cases (λ (n : ℕ). (n ≡ 0 → ⊥) → Roomy c) (ltb c.block.counter 4294967295) _ _
+    pick_cases (λ (n : ℕ). (n ≡ 0 → ⊥) → Roomy c) (ltb c.block.counter 4294967295) _ _
     (λ e.
-    pick-cases (λ (n : ℕ). (n ≡ 0 → ⊥) → Roomy c) (ltb c.slot.elapsed 65535) _ _
+    pick_cases (λ (n : ℕ). (n ≡ 0 → ⊥) → Roomy c) (ltb c.slot.elapsed 65535) _ _
     (λ f g. (ltb-true c.block.counter 4294967295 e, ltb-true c.slot.elapsed 65535 f))
     (λ f g. absurd (g refl)))
     (λ e g. absurd (g refl))

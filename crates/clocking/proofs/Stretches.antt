@@ -10,7 +10,7 @@ use Rattle.rules.specs.Slots.{slot_of}
 use Rattle.rules.specs.Stretches.{stretch_rest, quiet, elapsed_by}
 use Rattle.rules.specs.declared.Slot.{Slot}
 use Rattle.rules.specs.declared.Core.{Core}
-use Rattle.rules.proofs.Choice.{clash, pick_true, pick-false, either, every_last, every_step}
+use Rattle.rules.proofs.Choice.{clash, pick_true, pick_false, either, every_last, every_step}
 use Rattle.rules.proofs.Stretches.{quiet_facts}
 use Rattle.clocking.specs.Answers.{wait_answer}
 use Rattle.clocking.specs.declared.stretch.Wait.{Wait}
@@ -35,7 +35,7 @@ module _ (c : Core) (n : ℕ) {rest : ℕ} {s : Slot} (a : s ≡ slot_of c) (b :
 
   pub waits_not : ltb 0 n && ltb n rest ≡ false → record { quiet = false; slot = s } ≡ wait_answer n c
   unfolding wait_answer
-  waits_not t = (λ i. record { quiet = false; slot = a i }) ∙ sym (pick-false _ _ _ (tested ∙ t))
+  waits_not t = (λ i. record { quiet = false; slot = a i }) ∙ sym (pick_false _ _ _ (tested ∙ t))
 
 -- a wait that was taken is one of the definition
 pub wait_facts : (c : Core) (n : ℕ) {w : Wait} → w ≡ wait_answer n c → w.quiet ≡ true → (quiet n (slot_of c) ≡ true) × (w.slot ≡ elapsed_by n (slot_of c))
@@ -43,4 +43,4 @@ unfolding wait_answer
 wait_facts c n e q =
     either (quiet n (slot_of c))
     (λ t. (t, ap (λ (x : Wait). x.slot) (e ∙ pick_true _ _ _ t)))
-    (λ t. clash (sym (ap (λ (x : Wait). x.quiet) (e ∙ pick-false _ _ _ t)) ∙ q))
+    (λ t. clash (sym (ap (λ (x : Wait). x.quiet) (e ∙ pick_false _ _ _ t)) ∙ q))

@@ -14,7 +14,7 @@ use package.borrow.Author.Tests.{eqb-true, ne_eqb}
 use Rattle.rules.specs.Choice.{pick, every, any}
 use Rattle.rules.specs.Validity.{valid, total}
 use Rattle.rules.specs.World.{System, Move}
-use Rattle.rules.proofs.Choice.{clash, either, pick_true, pick-false, all_true, every_stop, every_stop_later, every_at}
+use Rattle.rules.proofs.Choice.{clash, either, pick_true, pick_false, all_true, every_stop, every_stop_later, every_at}
 use Rattle.examples.specs.Rows.{Action, fill, latch, send, send_answered, expect, expect_refused, speed, speed_refused, clocks, borrow, counts, memory, latches, pointers, counter, status, enabled, count, suppose, suppose_core, suppose_counts, clocks_refused, floor, figure, changed, next_move, Row, Seen, seen, same, send_one, expect_one, in_turn, moves_so, perform, played, Failure, row_failures, start, failures}
 use Rattle.examples.specs.Bites.{Other, OneOther, here, later, send_accepted, send_unwarned, send_number, send_warning, speed_accepted, clocks_accepted, expect_byte, expect_refused_number, speed_refused_number, borrow_number, counts_bus, counts_held, counts_cpu, memory_byte, latches_byte, pointers_a, pointers_b, counter_holds, status_byte, enabled_or, count_is, clocks_refused_number, floor_is, figure_is, changed_valid, move_from, move_from_io, move_to, move_to_io, move_byte, Bites, SendsSingly, TableBites, any_of, expects, some_expects, all_expect, EveryRowExpects, ExpectsChangeable}
 
@@ -41,10 +41,10 @@ same_bites : (xs ys zs : List ℕ) → OneOther xs ys → same xs zs ≡ true �
 unfolding same
 same_bites _ _ [] (here x y xs o) h = refl
 same_bites _ _ (z ∷ zs) (here x y xs o) h =
-    either (eqb x z) (λ e. pick-false _ _ _ (other_first z x y o e)) (λ e. clash (sym (pick-false _ _ _ e) ∙ h))
+    either (eqb x z) (λ e. pick_false _ _ _ (other_first z x y o e)) (λ e. clash (sym (pick_false _ _ _ e) ∙ h))
 same_bites _ _ [] (later x xs ys o) h = refl
 same_bites _ _ (z ∷ zs) (later x xs ys o) h =
-    either (eqb x z) (λ e. pick_true _ _ _ e ∙ same_bites xs ys zs o (sym (pick_true _ _ _ e) ∙ h)) (λ e. pick-false _ _ _ e)
+    either (eqb x z) (λ e. pick_true _ _ _ e ∙ same_bites xs ys zs o (sym (pick_true _ _ _ e) ∙ h)) (λ e. pick_false _ _ _ e)
 
 -- ---- bytes one after the other
 
@@ -160,7 +160,7 @@ row_right name place [] ys x s e =
     either (perform x s).right (λ h. h)
     (λ h.
     absurd
-    (let z : ◌≡◌ {A = ℕ} 1 0 = ap length (sym (pick-false _ _ _ h) ∙ first_empty _ _ e) in omega arith))
+    (let z : ◌≡◌ {A = ℕ} 1 0 = ap length (sym (pick_false _ _ _ h) ∙ first_empty _ _ e) in omega arith))
 row_right name place (w ∷ xs) ys x s e =
     row_right name (suc place) xs ys x _
     (rest_empty (pick (perform w s).right [] (record { name = name; place = place } ∷ [])) _ e)

@@ -758,7 +758,7 @@ table =
     ∷ borrow 65536 65536 3 0
     ∷ [])
     -- power-on: the seven registers, and a byte moved with no register written but WR4
-    ∷ row "power_on_lem"
+    ∷ row "power-on"
     (fill 0 (0xA1 ∷ 0xA2 ∷ [])
     ∷ fill 0x2000 (0xE1 ∷ 0xE2 ∷ [])
     ∷ count 0
@@ -776,7 +776,7 @@ table =
     ∷ pointers 0x0001 0x2001
     ∷ [])
     -- power-on: continuous, with no WR4 written
-    ∷ row "power_on_lem: continuous"
+    ∷ row "power-on: continuous"
     (send 0x0B (0x50 ∷ 0x20 ∷ 0x01 ∷ 0x87 ∷ [])
     ∷ clocks 32
     ∷ counts 8 24 0

@@ -20,7 +20,8 @@ fn is_shared(s: Slot) -> bool
 fn larger_of(x: u16, y: u16) -> u16
     ensures { result ≡ larger x y }
 {
-    if x < y {
+    let below = x < y;
+    if below {
         return y;
     }
     x

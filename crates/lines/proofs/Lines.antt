@@ -13,7 +13,7 @@ use lib.ListN.{length, take, set, length-set, length-append}
 use lib.Seq.{take-suc-set}
 use Rattle.rules.specs.Choice.{pick}
 use Rattle.rules.specs.Buffers.{placed}
-use Rattle.rules.proofs.Choice.{pick_true, pick-false, pick-both}
+use Rattle.rules.proofs.Choice.{pick_true, pick_false, pick_both}
 use Rattle.rules.specs.declared.Clocks.{Clocks}
 use Rattle.lines.specs.Lines.{decimal_to, decimal, number_line, write_line, read_line, record_line, marked_line, plain_line, LinesMarked, counts_line, Put, PutLine}
 
@@ -96,7 +96,7 @@ pub decimal_most : (most n : ℕ) → length (decimal_to most n) ≤ most
 unfolding decimal_to
 decimal_most zero n = omega arith
 decimal_most (suc most) n =
-    pick-both (λ (xs : List ℕ). length xs ≤ suc most) (ltb n 10) _ _ (omega arith)
+    pick_both (λ (xs : List ℕ). length xs ≤ suc most) (ltb n 10) _ _ (omega arith)
     (omega (arith, decimal_most most (n / 10), length-append (decimal_to most (n / 10)) ((48 + n % 10) ∷ [])))
 
 pub put_none : (l : List ℕ) (at n most : ℕ) → most ≡ 0 → Put l at (decimal_to most n) l at
@@ -114,7 +114,7 @@ unfolding decimal_to
 decimal_more zero n h e = absurd (omega arith)
 decimal_more (suc most) n h e =
     ap (λ (k : ℕ). decimal_to k (n / 10) ++ ((48 + n % 10) ∷ [])) (let z : suc most - 1 ≡ most = omega arith in z)
-    ∙ sym (pick-false (ltb n 10) _ _ (le-ltb _ _ e))
+    ∙ sym (pick_false (ltb n 10) _ _ (le-ltb _ _ e))
 
 -- ---- every line has room
 
@@ -124,16 +124,16 @@ number_room letter n = omega (arith, length-append (decimal n) (10 ∷ []), deci
 write_room : (number warning : ℕ) → length (write_line number warning) ≤ 72
 unfolding write_line
 write_room number warning =
-    pick-both (λ (xs : List ℕ). length xs ≤ 72) (eqb warning 0) _ _ (number_room 87 number)
+    pick_both (λ (xs : List ℕ). length xs ≤ 72) (eqb warning 0) _ _ (number_room 87 number)
     (simp length-append (omega (arith, decimal_most 20 number)))
 
 pub record_room : (kind number byte warning : ℕ) → length (record_line kind number byte warning) ≤ 72
 unfolding record_line read_line
 record_room kind number byte warning =
-    pick-both (λ (xs : List ℕ). length xs ≤ 72) (eqb kind 1) _ _ (write_room number warning)
-    (pick-both (λ (xs : List ℕ). length xs ≤ 72) (eqb kind 2) _ _
-    (pick-both (λ (xs : List ℕ). length xs ≤ 72) (eqb number 0) _ _ (omega arith) (number_room 82 number))
-    (pick-both (λ (xs : List ℕ). length xs ≤ 72) (eqb kind 3) _ _ (number_room 71 number) (number_room 77 number)))
+    pick_both (λ (xs : List ℕ). length xs ≤ 72) (eqb kind 1) _ _ (write_room number warning)
+    (pick_both (λ (xs : List ℕ). length xs ≤ 72) (eqb kind 2) _ _
+    (pick_both (λ (xs : List ℕ). length xs ≤ 72) (eqb number 0) _ _ (omega arith) (number_room 82 number))
+    (pick_both (λ (xs : List ℕ). length xs ≤ 72) (eqb kind 3) _ _ (number_room 71 number) (number_room 77 number)))
 
 pub counts_room : (k : Clocks) → length (counts_line k) ≤ 72
 counts_room k =
@@ -151,7 +151,7 @@ mark_none kind number byte = refl
 
 mark_others : (kind number byte warning : ℕ) → (kind ≡ 1 → ⊥) → record_line kind number byte warning ≡ plain_line kind number byte
 unfolding record_line plain_line
-mark_others kind number byte warning f = pick-false _ _ _ (ne_eqb _ _ f) ∙ sym (pick-false _ _ _ (ne_eqb _ _ f))
+mark_others kind number byte warning f = pick_false _ _ _ (ne_eqb _ _ f) ∙ sym (pick_false _ _ _ (ne_eqb _ _ f))
 
 pub lines_marked : LinesMarked
 lines_marked = record { marked = mark_warned; unmarked = mark_none; others = mark_others }

@@ -13,7 +13,7 @@ use borrow.Author.Tests.{le-ltb, eqb-true, eqb-false, eq-eqb, ne_eqb}
 use Rattle.rules.specs.Choice.{pick, every}
 use Rattle.rules.specs.Bytes.{bit}
 use Rattle.rules.specs.Readback.{after, seek, chosen}
-use Rattle.rules.proofs.Choice.{either, pick_true, pick-false}
+use Rattle.rules.proofs.Choice.{either, pick_true, pick_false}
 use Rattle.rules.proofs.Bytes.{bit_above}
 use Rattle.rules.proofs.Reading.{seek_here, seek_on}
 use Rattle.rules.proofs.Trying.{all_below, below_at}
@@ -55,12 +55,12 @@ found_chosen mask position bits m p e =
 
 pub found_ahead : (mask position bits : ℕ) → mask < 256 → position < 7 → bits ≡ at_or_after position → (bit_and mask bits ≡ 0 → ⊥) → count_trailing_zeros 8 (bit_and mask bits) ≡ chosen mask position
 unfolding found
-found_ahead mask position bits m p e some = sym (pick-false _ _ _ (ne_eqb _ _ some)) ∙ found_chosen mask position bits m p e
+found_ahead mask position bits m p e some = sym (pick_false _ _ _ (ne_eqb _ _ some)) ∙ found_chosen mask position bits m p e
 
 pub found_behind : (mask position bits : ℕ) → mask < 256 → position < 7 → bits ≡ at_or_after position → bit_and mask bits ≡ 0 → (mask % 128 ≡ 0 → ⊥) → count_trailing_zeros 8 (mask % 128) ≡ chosen mask position
 unfolding found
 found_behind mask position bits m p e none some =
-    sym (pick-false _ _ _ (ne_eqb _ _ some)) ∙ sym (pick_true _ _ _ (eq-eqb _ _ none)) ∙ found_chosen mask position bits m p e
+    sym (pick_false _ _ _ (ne_eqb _ _ some)) ∙ sym (pick_true _ _ _ (eq-eqb _ _ none)) ∙ found_chosen mask position bits m p e
 
 pub found_nowhere : (mask position bits : ℕ) → mask < 256 → position < 7 → bits ≡ at_or_after position → bit_and mask bits ≡ 0 → mask % 128 ≡ 0 → position ≡ chosen mask position
 unfolding found
@@ -96,7 +96,7 @@ found_sought mask m = eqb-true _ _ (below_at 256 is_sought all_sought mask m)
 
 after_last : (position : ℕ) → 7 ≤ position → after position ≡ 0
 unfolding after
-after_last position p = pick-false _ _ _ (le-ltb position 6 (omega (arith, p)))
+after_last position p = pick_false _ _ _ (le-ltb position 6 (omega (arith, p)))
 
 pub found_beyond : (mask position : ℕ) → mask < 256 → 7 ≤ position → (position ≡ 7 → mask ≤ 127) → count_trailing_zeros 8 (bit_or (mask % 128) 64) ≡ chosen mask position
 found_beyond mask position m p h =

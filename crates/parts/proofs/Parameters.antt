@@ -5,7 +5,7 @@ use Rattle.std.proofs.Common.{◌≡◌, ℕ, ◌+◌, ◌%◌, ◌<◌, ◌≤�
 use Rattle.rules.specs.Choice.{any, means}
 use Rattle.rules.specs.Pending.{a_timing, b_low, b_high, read_mask, valid_pending}
 use Rattle.rules.specs.Opened.{opened}
-use Rattle.rules.proofs.Choice.{clash, either, any-cases, any_none, means_so}
+use Rattle.rules.proofs.Choice.{clash, either, any_cases, any_none, means_so}
 use Rattle.rules.proofs.Trying.{all_below, below_at}
 use Rattle.rules.proofs.Parameters.{each_number}
 
@@ -19,9 +19,9 @@ no_divisor p h e = absurd (omega (arith, mod-eq_of_lt h, e))
 divisor_small : (p : ℕ) → divisor_or_both p ≡ true → p < 513
 unfolding divisor_or_both
 divisor_small p e =
-    any-cases _ _ e
+    any_cases _ _ e
     (λ d. either (ltb p 513) (ltb-true _ _) (λ h. no_divisor p (omega (arith, ltb-false p 513 h)) (eqb-true _ _ d)))
-    (λ e. any-cases _ _ e (λ d. omega (arith, eqb-true p 384 d)) any_none)
+    (λ e. any_cases _ _ e (λ d. omega (arith, eqb-true p 384 d)) any_none)
 
 divisor_valid : (p : ℕ) → divisor_or_both p ≡ true → valid_pending p ≡ true
 unfolding opened all_below divisor_or_both
@@ -40,4 +40,4 @@ same_test false false f g = refl
 pub from_timing_on : (p : ℕ) → a_timing ≤ p → divisor_or_both p ≡ valid_pending p
 from_timing_on p h =
     same_test _ _ (divisor_valid p)
-    (λ e. any-cases _ _ (valid_divisor p e) (λ d. clash (sym (le-ltb _ _ h) ∙ d)) (λ d. any-cases _ _ d (λ t. t) any_none))
+    (λ e. any_cases _ _ (valid_divisor p e) (λ d. clash (sym (le-ltb _ _ h) ∙ d)) (λ d. any_cases _ _ d (λ t. t) any_none))

@@ -141,7 +141,8 @@ pub fn after(parameter: u16, byte: u8, p: u16) -> u16
 pub fn is_valid(p: u16) -> bool
     ensures { result ≡ valid_pending p }
 {
-    if p < A_TIMING {
+    let of_wr0 = p < A_TIMING;
+    if of_wr0 {
         return true;
     }
     (READ_MASK % p == 0) | (p == B_BOTH)

@@ -11,7 +11,7 @@ use lib.ListN.{length, get_or, take, drop, length-append, length-drop, take-appe
 use lib.Seq.{drop-drop, length-take-le}
 use Rattle.rules.specs.Choice.{pick}
 use Rattle.rules.specs.Bytes.{AreBytes}
-use Rattle.rules.proofs.Choice.{pick-false, pick-both, pick-cases}
+use Rattle.rules.proofs.Choice.{pick_false, pick_both, pick_cases}
 use Rattle.records.specs.Records.{none, short, behind, write_record, read_record, grant_record, memory_record, of_kind, record_at}
 use Rattle.records.specs.Encoding.{SessionRecord, to_write, to_read, to_grant, to_memory, InRange, kind_and_arguments, record_bytes}
 use Rattle.records.specs.BigEndian.{number_at, bytes_of, numbers_in, word, quad, two_bytes, four_bytes}
@@ -66,7 +66,7 @@ module _ (zs : List ℕ) where
       let n = memory_length address bytes g in
       record_is [] [] 0 (record_bytes (to_memory address bytes) ++ zs) true (omega (arith, n, length-append bytes zs))
       ∙ ap (λ (n : ℕ). pick (eqb n 0) (none 22 0) (of_kind (record_bytes (to_memory address bytes) ++ zs) 0 n 4)) n
-      ∙ pick-false _ _ _ (ne_eqb (3 + length bytes) 0 (λ e. omega (arith, e)))
+      ∙ pick_false _ _ _ (ne_eqb (3 + length bytes) 0 (λ e. omega (arith, e)))
       ∙ memory_kind_lem address bytes a h g
 
 pub reads_back : (r : SessionRecord) (zs : List ℕ) → InRange r → record_at (record_bytes r ++ zs) 0 true ≡ found r
@@ -201,21 +201,21 @@ module _ (ys : List ℕ) (small : AreBytes ys) where
   comes_kind : (n k : ℕ) → 2 + n ≤ length ys → n ≡ word ys 0 → k ≡ get_or ys 2 0 → Comes (of_kind ys 0 n k)
   unfolding of_kind write_record read_record grant_record memory_record Comes
   comes_kind n k l e g =
-      pick-cases Comes (eqb k 1) _ _
-      (λ a. pick-cases Comes (eqb n 4) _ _
+      pick_cases Comes (eqb k 1) _ _
+      (λ a. pick_cases Comes (eqb n 4) _ _
       (λ b f h. let z : n ≡ 4 = eqb-true n 4 b in write_back (omega (arith, z, l)) (sym e ∙ z) (sym g ∙ eqb-true k 1 a))
       (λ b. comes_not 22 (omega arith)))
-      (λ a. pick-cases Comes (eqb k 2) _ _
-      (λ a. pick-cases Comes (eqb n 3) _ _
+      (λ a. pick_cases Comes (eqb k 2) _ _
+      (λ a. pick_cases Comes (eqb n 3) _ _
       (λ b f h. let z : n ≡ 3 = eqb-true n 3 b in read_back (omega (arith, z, l)) (sym e ∙ z) (sym g ∙ eqb-true k 2 a))
       (λ b. comes_not 22 (omega arith)))
-      (λ a. pick-cases Comes (eqb k 3) _ _
-      (λ a. pick-cases Comes (eqb n 5) _ _
+      (λ a. pick_cases Comes (eqb k 3) _ _
+      (λ a. pick_cases Comes (eqb n 5) _ _
       (λ b f h. let z : n ≡ 5 = eqb-true n 5 b in grant_back (omega (arith, z, l)) (sym e ∙ z) (sym g ∙ eqb-true k 3 a))
       (λ b. comes_not 22 (omega arith)))
-      (λ a. pick-cases Comes (eqb k 4) _ _
-      (λ a. pick-cases Comes (ltb n 4) _ _ (λ b. comes_not 22 (omega arith))
-      (λ b. pick-cases Comes (ltb 258 n) _ _ (λ c. comes_not 22 (omega arith))
+      (λ a. pick_cases Comes (eqb k 4) _ _
+      (λ a. pick_cases Comes (ltb n 4) _ _ (λ b. comes_not 22 (omega arith))
+      (λ b. pick_cases Comes (ltb 258 n) _ _ (λ c. comes_not 22 (omega arith))
       (λ c f h. memory_comes n l e (ltb-false n 4 b) (ltb-false 258 n c) (sym g ∙ eqb-true k 4 a))))
       (λ a. comes_not 22 (omega arith)))))
     where
@@ -235,8 +235,8 @@ module _ (ys : List ℕ) (small : AreBytes ys) where
   pub comes : ((record_at ys 0 true).number ≡ 5 → ⊥) → (record_at ys 0 true).number < 20 → Written ys (record_at ys 0 true)
   unfolding record_at Comes
   comes =
-      pick-both Comes (leb (length ys) 0) _ _ comes_behind
-      (pick-cases Comes (leb (length ys) 1) _ _ (λ a. comes_short)
-      (λ a. pick-cases Comes (ltb (length ys - 2) (word ys 0)) _ _ (λ b. comes_short)
-      (λ b. pick-both Comes (eqb (word ys 0) 0) _ _ (comes_not 22 (omega arith))
+      pick_both Comes (leb (length ys) 0) _ _ comes_behind
+      (pick_cases Comes (leb (length ys) 1) _ _ (λ a. comes_short)
+      (λ a. pick_cases Comes (ltb (length ys - 2) (word ys 0)) _ _ (λ b. comes_short)
+      (λ b. pick_both Comes (eqb (word ys 0) 0) _ _ (comes_not 22 (omega arith))
       (comes_kind (word ys 0) (get_or ys 2 0) (omega (arith, leb-false (length ys) 1 a, ltb-false (length ys - 2) (word ys 0) b)) refl refl))))

@@ -10,7 +10,7 @@ use borrow.Author.Tests.{lt-leb, leb-false, le-ltb, ltb-false, eqb-true, eqb-fal
 use lib.Dec.{eqb, leb, ltb}
 use lib.ListN.{length, get_or, length-append}
 use Rattle.rules.specs.Choice.{pick}
-use Rattle.rules.proofs.Choice.{pick-false, pick-both, pick-cases, either}
+use Rattle.rules.proofs.Choice.{pick_false, pick_both, pick_cases, either}
 use Rattle.records.specs.Records.{none, short, behind, write_record, read_record, grant_record, memory_record, of_kind, record_at, long_length}
 use Rattle.records.specs.BigEndian.{word}
 use Rattle.records.specs.declared.Record.{Record}
@@ -90,9 +90,9 @@ module _ (xs ys : List ℕ) where
     pub record_is : (zs : List ℕ) (e : Bool) → p + 2 + word zs p ≤ length zs → record_at zs p e ≡ pick (eqb (word zs p) 0) (none 22 p) (of_kind zs p (word zs p) (get_or zs (p + 2) 0))
     unfolding record_at
     record_is zs e h =
-        pick-false _ _ _ (lt-leb (length zs) p (omega arith))
-        ∙ pick-false _ _ _ (lt-leb (length zs) (p + 1) (omega arith))
-        ∙ pick-false _ _ _ (le-ltb (length zs - (p + 2)) (word zs p) (omega arith))
+        pick_false _ _ _ (lt-leb (length zs) p (omega arith))
+        ∙ pick_false _ _ _ (lt-leb (length zs) (p + 1) (omega arith))
+        ∙ pick_false _ _ _ (le-ltb (length zs - (p + 2)) (word zs p) (omega arith))
 
     pub record_stays : Whole → (e : Bool) → record_at (xs ++ ys) p e ≡ record_at xs p false
     record_stays w e =
@@ -117,12 +117,12 @@ module _ (xs ys : List ℕ) where
     within_kind : (n k : ℕ) → p + 2 + n ≤ length xs → Within xs (of_kind xs p n k)
     unfolding of_kind write_record read_record grant_record memory_record Within
     within_kind n k h =
-        pick-both (Within xs) _ _ _ (pick-both (Within xs) _ _ _ (λ e. absurd (omega (arith, e))) (λ e. absurd (omega (arith, e))))
-        (pick-both (Within xs) _ _ _ (pick-both (Within xs) _ _ _ (λ e. absurd (omega (arith, e))) (λ e. absurd (omega (arith, e))))
-        (pick-both (Within xs) _ _ _ (pick-both (Within xs) _ _ _ (λ e. absurd (omega (arith, e))) (λ e. absurd (omega (arith, e))))
-        (pick-both (Within xs) _ _ _
-        (pick-cases (Within xs) (ltb n 4) _ _ (λ f e. absurd (omega (arith, e)))
-        (λ f. pick-both (Within xs) _ _ _ (λ e. absurd (omega (arith, e)))
+        pick_both (Within xs) _ _ _ (pick_both (Within xs) _ _ _ (λ e. absurd (omega (arith, e))) (λ e. absurd (omega (arith, e))))
+        (pick_both (Within xs) _ _ _ (pick_both (Within xs) _ _ _ (λ e. absurd (omega (arith, e))) (λ e. absurd (omega (arith, e))))
+        (pick_both (Within xs) _ _ _ (pick_both (Within xs) _ _ _ (λ e. absurd (omega (arith, e))) (λ e. absurd (omega (arith, e))))
+        (pick_both (Within xs) _ _ _
+        (pick_cases (Within xs) (ltb n 4) _ _ (λ f e. absurd (omega (arith, e)))
+        (λ f. pick_both (Within xs) _ _ _ (λ e. absurd (omega (arith, e)))
         (λ e. (omega (arith, ltb-false n 4 f), h))))
         (λ e. absurd (omega (arith, e))))))
 
@@ -133,4 +133,4 @@ module _ (xs ys : List ℕ) where
     pub within : Whole → Within xs (record_at xs p false)
     within w =
         subst (Within xs) (sym (record_is xs false w.bytes_there))
-        (pick-both (Within xs) _ _ _ within_none (within_kind (word xs p) (get_or xs (p + 2) 0) w.bytes_there))
+        (pick_both (Within xs) _ _ _ within_none (within_kind (word xs p) (get_or xs (p + 2) 0) w.bytes_there))

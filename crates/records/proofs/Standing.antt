@@ -12,7 +12,7 @@ use lib.Dec.{leb}
 use lib.ListN.{length, get_or}
 use Rattle.rules.specs.Choice.{pick}
 use Rattle.rules.specs.Bytes.{AreBytes}
-use Rattle.rules.proofs.Choice.{pick_true, pick-false, pick-both, pick-cases}
+use Rattle.rules.proofs.Choice.{pick_true, pick_false, pick_both, pick_cases}
 use Rattle.records.specs.Records.{none, short, behind, write_record, read_record, grant_record, memory_record, of_kind, record_at, long_length}
 use Rattle.records.specs.BigEndian.{word}
 use Rattle.records.specs.declared.Record.{Record}
@@ -51,15 +51,15 @@ module _ (xs : List ℕ) (p : ℕ) where
   pub stands_kind : (n k : ℕ) → Stands xs p (of_kind xs p n k)
   unfolding of_kind write_record read_record grant_record memory_record
   stands_kind n k =
-      pick-both (Stands xs p) _ _ _
-      (pick-both (Stands xs p) _ _ _ (stands_one _ (omega arith) (omega arith) (omega arith)) stands_wrong)
-      (pick-both (Stands xs p) _ _ _
-      (pick-both (Stands xs p) _ _ _ (stands_one _ (omega arith) (omega arith) (omega arith)) stands_wrong)
-      (pick-both (Stands xs p) _ _ _
-      (pick-both (Stands xs p) _ _ _ (stands_one _ (omega arith) (omega arith) (omega arith)) stands_wrong)
-      (pick-both (Stands xs p) _ _ _
-      (pick-both (Stands xs p) _ _ _ stands_wrong
-      (pick-both (Stands xs p) _ _ _ stands_wrong (stands_one _ (omega arith) (omega arith) (omega arith))))
+      pick_both (Stands xs p) _ _ _
+      (pick_both (Stands xs p) _ _ _ (stands_one _ (omega arith) (omega arith) (omega arith)) stands_wrong)
+      (pick_both (Stands xs p) _ _ _
+      (pick_both (Stands xs p) _ _ _ (stands_one _ (omega arith) (omega arith) (omega arith)) stands_wrong)
+      (pick_both (Stands xs p) _ _ _
+      (pick_both (Stands xs p) _ _ _ (stands_one _ (omega arith) (omega arith) (omega arith)) stands_wrong)
+      (pick_both (Stands xs p) _ _ _
+      (pick_both (Stands xs p) _ _ _ stands_wrong
+      (pick_both (Stands xs p) _ _ _ stands_wrong (stands_one _ (omega arith) (omega arith) (omega arith))))
       stands_wrong)))
 
   stands_short : Stands xs p (short true p)
@@ -79,10 +79,10 @@ module _ (xs : List ℕ) (p : ℕ) where
   pub stands : Stands xs p (record_at xs p true)
   unfolding record_at
   stands =
-      pick-cases (Stands xs p) (leb (length xs) p) _ _ (λ e. stands_behind (leb-true (length xs) p e))
-      (λ e. pick-both (Stands xs p) _ _ _ stands_short
-      (pick-both (Stands xs p) _ _ _ stands_short
-      (pick-both (Stands xs p) _ _ _ stands_wrong (stands_kind (word xs p) (get_or xs (p + 2) 0)))))
+      pick_cases (Stands xs p) (leb (length xs) p) _ _ (λ e. stands_behind (leb-true (length xs) p e))
+      (λ e. pick_both (Stands xs p) _ _ _ stands_short
+      (pick_both (Stands xs p) _ _ _ stands_short
+      (pick_both (Stands xs p) _ _ _ stands_wrong (stands_kind (word xs p) (get_or xs (p + 2) 0)))))
 
   -- behind the last byte stands the end
   pub at_end : length xs ≤ p → record_at xs p true ≡ none 5 p
@@ -98,11 +98,11 @@ module _ (xs : List ℕ) (p : ℕ) where
   kind_long : (n k : ℕ) → 258 < n → of_kind xs p n k ≡ none 22 p
   unfolding of_kind write_record read_record grant_record memory_record
   kind_long n k h =
-      pick-both (λ (r : Record). r ≡ none 22 p) _ _ _ (pick-false _ _ _ (ne_eqb n 4 (λ e. omega (arith, e))))
-      (pick-both (λ (r : Record). r ≡ none 22 p) _ _ _ (pick-false _ _ _ (ne_eqb n 3 (λ e. omega (arith, e))))
-      (pick-both (λ (r : Record). r ≡ none 22 p) _ _ _ (pick-false _ _ _ (ne_eqb n 5 (λ e. omega (arith, e))))
-      (pick-both (λ (r : Record). r ≡ none 22 p) _ _ _
-      (pick-both (λ (r : Record). r ≡ none 22 p) _ _ _ refl (pick_true _ _ _ (lt-ltb 258 n h)))
+      pick_both (λ (r : Record). r ≡ none 22 p) _ _ _ (pick_false _ _ _ (ne_eqb n 4 (λ e. omega (arith, e))))
+      (pick_both (λ (r : Record). r ≡ none 22 p) _ _ _ (pick_false _ _ _ (ne_eqb n 3 (λ e. omega (arith, e))))
+      (pick_both (λ (r : Record). r ≡ none 22 p) _ _ _ (pick_false _ _ _ (ne_eqb n 5 (λ e. omega (arith, e))))
+      (pick_both (λ (r : Record). r ≡ none 22 p) _ _ _
+      (pick_both (λ (r : Record). r ≡ none 22 p) _ _ _ refl (pick_true _ _ _ (lt-ltb 258 n h)))
       refl)))
 
   -- its length is at hand, and it is the word there
@@ -114,19 +114,19 @@ module _ (xs : List ℕ) (p : ℕ) where
   pub long : (long_length xs p ≡ 0 → ⊥) → Long (long_length xs p)
   unfolding long_length
   long =
-      pick-cases (λ (n : ℕ). (n ≡ 0 → ⊥) → Long n) _ _ _ (λ e f. absurd (f refl))
-      (λ e. pick-cases (λ (n : ℕ). (n ≡ 0 → ⊥) → Long n) _ _ _ (λ g f. absurd (f refl))
-      (λ g. pick-cases (λ (n : ℕ). (n ≡ 0 → ⊥) → Long n) _ _ _
+      pick_cases (λ (n : ℕ). (n ≡ 0 → ⊥) → Long n) _ _ _ (λ e f. absurd (f refl))
+      (λ e. pick_cases (λ (n : ℕ). (n ≡ 0 → ⊥) → Long n) _ _ _ (λ g f. absurd (f refl))
+      (λ g. pick_cases (λ (n : ℕ). (n ≡ 0 → ⊥) → Long n) _ _ _
       (λ h f. record { there = leb-false (length xs) (p + 1) g; most = ltb-true 258 (word xs p) h; size = refl })
       (λ h f. absurd (f refl))))
 
   pub record_whole : Long (long_length xs p) → long_length xs p ≤ length xs - (p + 2) → record_at xs p true ≡ none 22 p
   unfolding record_at
   record_whole l h =
-      pick-false _ _ _ (lt-leb (length xs) p (omega (arith, l.there)))
-      ∙ pick-false _ _ _ (lt-leb (length xs) (p + 1) l.there)
-      ∙ pick-false _ _ _ (le-ltb (length xs - (p + 2)) (word xs p) (omega (arith, l.size, h)))
-      ∙ pick-false _ _ _ (ne_eqb (word xs p) 0 (λ e. omega (arith, l.most, e)))
+      pick_false _ _ _ (lt-leb (length xs) p (omega (arith, l.there)))
+      ∙ pick_false _ _ _ (lt-leb (length xs) (p + 1) l.there)
+      ∙ pick_false _ _ _ (le-ltb (length xs - (p + 2)) (word xs p) (omega (arith, l.size, h)))
+      ∙ pick_false _ _ _ (ne_eqb (word xs p) 0 (λ e. omega (arith, l.most, e)))
       ∙ kind_long (word xs p) (get_or xs (p + 2) 0) l.most
 
   pub record_cut : Long (long_length xs p) → length xs - (p + 2) < long_length xs p → record_at xs p true ≡ none 21 p
@@ -142,8 +142,8 @@ module _ (xs : List ℕ) (p : ℕ) where
 pub long_there : (xs : List ℕ) (p : ℕ) → (long_length xs p ≡ 0 → ⊥) → p + 2 ≤ length xs
 unfolding long_length
 long_there xs p =
-    pick-cases (λ (n : ℕ). (n ≡ 0 → ⊥) → p + 2 ≤ length xs) (leb (length xs) p) _ _ (λ e f. absurd (f refl))
-    (λ e. pick-cases (λ (n : ℕ). (n ≡ 0 → ⊥) → p + 2 ≤ length xs) (leb (length xs) (p + 1)) _ _ (λ e f. absurd (f refl))
+    pick_cases (λ (n : ℕ). (n ≡ 0 → ⊥) → p + 2 ≤ length xs) (leb (length xs) p) _ _ (λ e f. absurd (f refl))
+    (λ e. pick_cases (λ (n : ℕ). (n ≡ 0 → ⊥) → p + 2 ≤ length xs) (leb (length xs) (p + 1)) _ _ (λ e f. absurd (f refl))
     (λ e f. omega (arith, leb-false (length xs) (p + 1) e)))
 
 -- the byte of what stands at a place is a byte
@@ -154,15 +154,15 @@ module _ (xs : List ℕ) (h : AreBytes xs) (p : ℕ) where
   small_kind : (n k : ℕ) → Small (of_kind xs p n k)
   unfolding of_kind write_record read_record grant_record memory_record Small
   small_kind n k =
-      pick-both Small _ _ _ (pick-both Small _ _ _ (byte_small xs h (p + 5)) (omega arith))
-      (pick-both Small _ _ _ (pick-both Small _ _ _ (omega arith) (omega arith))
-      (pick-both Small _ _ _ (pick-both Small _ _ _ (omega arith) (omega arith))
-      (pick-both Small _ _ _ (pick-both Small _ _ _ (omega arith) (pick-both Small _ _ _ (omega arith) (omega arith))) (omega arith))))
+      pick_both Small _ _ _ (pick_both Small _ _ _ (byte_small xs h (p + 5)) (omega arith))
+      (pick_both Small _ _ _ (pick_both Small _ _ _ (omega arith) (omega arith))
+      (pick_both Small _ _ _ (pick_both Small _ _ _ (omega arith) (omega arith))
+      (pick_both Small _ _ _ (pick_both Small _ _ _ (omega arith) (pick_both Small _ _ _ (omega arith) (omega arith))) (omega arith))))
 
   pub small_byte : (record_at xs p true).byte < 256
   unfolding record_at short behind Small
   small_byte =
-      pick-both Small _ _ _ (pick-both Small _ _ _ (omega arith) (omega arith))
-      (pick-both Small _ _ _ (pick-both Small _ _ _ (omega arith) (omega arith))
-      (pick-both Small _ _ _ (pick-both Small _ _ _ (omega arith) (omega arith))
-      (pick-both Small _ _ _ (omega arith) (small_kind (word xs p) (get_or xs (p + 2) 0)))))
+      pick_both Small _ _ _ (pick_both Small _ _ _ (omega arith) (omega arith))
+      (pick_both Small _ _ _ (pick_both Small _ _ _ (omega arith) (omega arith))
+      (pick_both Small _ _ _ (pick_both Small _ _ _ (omega arith) (omega arith))
+      (pick_both Small _ _ _ (omega arith) (small_kind (word xs p) (get_or xs (p + 2) 0)))))

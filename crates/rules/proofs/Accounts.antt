@@ -25,7 +25,7 @@ use Rattle.rules.specs.History.{Event, clock_noted, counter_zeroed, Past, with_c
 use Rattle.rules.specs.Accounts.{of_kind, clocks_noted, bytes_of, bytes_noted, held_before, zeroed_noted, clocks_asked, clocks_accepted, numbers_of, Demand3}
 use Rattle.rules.specs.declared.Clocks.{Clocks}
 use Rattle.rules.specs.declared.Core.{Core}
-use Rattle.rules.proofs.Choice.{pick-cases, pick-both, both-picked, pick_true, pick-false, pick-ap}
+use Rattle.rules.proofs.Choice.{pick_cases, pick_both, both_picked, pick_true, pick_false, pick_ap}
 use Rattle.rules.proofs.World.{clocked_zero, clocked_suc, clocked_total}
 use Rattle.rules.proofs.Calls.{granted, grant_refuses}
 use Rattle.rules.proofs.Counter.{write_zero, write_same, read_same, clock_balanced}
@@ -93,10 +93,10 @@ pub record Step {M : Type 0} (asked : ℕ) (s : System M) (a : Answer M) (given 
 
 -- an entry that asks for no clock, or is refused, adds none
 pub no_clocks_lem : (t : Bool) (n : ℕ) → n ≡ n + pick t 0 0
-no_clocks_lem t n = sym (ap (λ (k : ℕ). n + k) (pick-both (λ (k : ℕ). k ≡ 0) t 0 0 refl refl) ∙ add-zero n)
+no_clocks_lem t n = sym (ap (λ (k : ℕ). n + k) (pick_both (λ (k : ℕ). k ≡ 0) t 0 0 refl refl) ∙ add-zero n)
 
 refused_clocks : (k asked n : ℕ) → (k ≡ 0 → ⊥) → n ≡ n + pick (eqb k 0) asked 0
-refused_clocks k asked n h = sym (ap (λ (j : ℕ). n + j) (pick-false _ _ _ (ne_eqb _ _ h)) ∙ add-zero n)
+refused_clocks k asked n h = sym (ap (λ (j : ℕ). n + j) (pick_false _ _ _ (ne_eqb _ _ h)) ∙ add-zero n)
 
 granted_clocks : (asked n : ℕ) → n + asked ≡ n + pick (eqb 0 0) asked 0
 granted_clocks asked n = ap (λ (j : ℕ). n + j) (sym (pick_true _ _ _ refl))
@@ -105,7 +105,7 @@ module _ {M : Type 0} (σ : Store M) where
   -- a clock's note balances the counter
   note_balanced : (w : World M) → held_before (note σ w).zeroed + (step σ w).core.block.counter ≡ w.core.block.counter + bytes_of (note σ w).move
   note_balanced w =
-      clock_balanced w.core ∙ ap (λ (k : ℕ). w.core.block.counter + k) (sym (pick-ap bytes_of (clock_of w.core).moves _ _))
+      clock_balanced w.core ∙ ap (λ (k : ℕ). w.core.block.counter + k) (sym (pick_ap bytes_of (clock_of w.core).moves _ _))
 
   -- n clocks
   record Clocked (s : System M) (p : Past M) : Type 0 where
@@ -137,7 +137,7 @@ module _ {M : Type 0} (σ : Store M) where
   written_agrees : (s : System M) (es : List Event) (port byte : ℕ) → CountsOf s es → Agree (record { world = record { core = written port byte s.world.core; buffers = s.world.buffers }; clocks = s.clocks }) (write_passed port byte (past_of s es))
   unfolding write_passed
   written_agrees s es port byte c =
-      pick-cases
+      pick_cases
       (λ (q : Past M). Agree (record { world = record { core = written port byte s.world.core; buffers = s.world.buffers }; clocks = s.clocks }) q)
       _ _ _
       (λ z. record { world = refl; sum = refl; counts = counts_zeroed _ es _ _ (write_zero port byte s.world.core z) c })
@@ -151,7 +151,7 @@ module _ {M : Type 0} (σ : Store M) where
   unfolding write_reply_over unless_refused noted_unless
   write_step s es port byte n e c =
       rw e
-      (both-picked (λ (r : Reply) (q : Past M). Step 0 s (beside s.world.buffers r) (access_refusal s.world.core (total s.clocks) port) q)
+      (both_picked (λ (r : Reply) (q : Past M). Step 0 s (beside s.world.buffers r) (access_refusal s.world.core (total s.clocks) port) q)
       _ _ _ _ _
       (λ d. record { number = sym (eqb-true _ _ d); agree = written_agrees s es port byte c; sum = no_clocks_lem _ _ })
       (λ d. record { number = refl; agree = as_before s es c; sum = no_clocks_lem _ _ }))
@@ -165,7 +165,7 @@ module _ {M : Type 0} (σ : Store M) where
       → Step 0 s (beside s.world.buffers (unless_refused n byte warning next s.world.core s.clocks)) n (noted_unless n (with_core next (past_of s es)) (past_of s es)).past
   unfolding unless_refused noted_unless
   uncounted_step s es n byte warning next e c =
-      both-picked (λ (r : Reply) (q : Past M). Step 0 s (beside s.world.buffers r) n q)
+      both_picked (λ (r : Reply) (q : Past M). Step 0 s (beside s.world.buffers r) n q)
       _ _ _ _ _
       (λ d.
       record {
@@ -194,7 +194,7 @@ module _ {M : Type 0} (σ : Store M) where
   own_step : (s : System M) (es : List Event) (n : ℕ) → CountsOf s es → Step n s (grant σ s n) (grant_number σ s n) (grant_noted_by valid_core clock_of σ s.world.buffers n (past_of s es)).past
   unfolding grant_over noted_unless
   own_step s es n c =
-      both-picked (λ (a : Answer M) (q : Past M). Step n s a (grant_number σ s n) q) _ _ _ _ _
+      both_picked (λ (a : Answer M) (q : Past M). Step n s a (grant_number σ s n) q) _ _ _ _ _
       (λ d. record { number = sym (eqb-true _ _ d); agree = granted_agrees s es n c; sum = clocked_total σ n s ∙ granted_clocks n _ })
       (λ d. record { number = refl; agree = as_before s es c; sum = refused_clocks (grant_number σ s n) n _ (eqb-false _ _ d) })
 
@@ -217,7 +217,7 @@ module _ {M C : Type 0} (σ : Store M) (ω : Outside M C) where
       subst (λ (a : Answer M). Step n s a (other_number s n b) (grant_noted_by valid_core clock_of σ b n (past_of s es)).past)
       (other_answer s n b wrong)
       (subst (λ (p : Past M). Step n s (record { answered = refused (other_number s n b); system = s }) (other_number s n b) p)
-      (sym (pick-false _ _ _ (ne_eqb _ _ wrong)))
+      (sym (pick_false _ _ _ (ne_eqb _ _ wrong)))
       (record { number = refl; agree = as_before σ s es c; sum = refused_clocks (other_number s n b) n _ wrong }))
 
   -- ---- one entry

@@ -18,7 +18,7 @@ use Rattle.rules.specs.Entries.{Outside, Entry, port_write, port_read, speed_cal
 use Rattle.rules.specs.History.{Past, noted_unless, grant_noted_by, clock_passed_by, clocks_passed_by, clocks_passed, note_entry_by, note_entry}
 use Rattle.rules.specs.declared.Clocks.{Clocks}
 use Rattle.rules.specs.declared.Core.{Core}
-use Rattle.rules.proofs.Choice.{both-picked}
+use Rattle.rules.proofs.Choice.{both_picked}
 use Rattle.rules.proofs.World.{clocked_keeps}
 use Rattle.rules.proofs.Calls.{granted, valid_core_lem}
 
@@ -72,7 +72,7 @@ module _
       unfolding grant_over
       grant_same s n a =
           rw a.tests
-          (both-picked ◌≡◌ (eqb (grant_number σ s n) 0) _ _ _ _
+          (both_picked ◌≡◌ (eqb (grant_number σ s n) 0) _ _ _ _
           (λ e. ap (λ (t : System M). record { answered = accepted 0; system = t }) (clocked_same n s (accepted_clocks _ _ _ n a e)))
           (λ e. refl))
 
@@ -105,7 +105,7 @@ module _
       noted_same b n p a =
           rw a.tests
           (ap (λ (x : Past M). record { number = grant_refusal σ p.world.core p.sum b n; past = x })
-          (both-picked ◌≡◌ (eqb (grant_refusal σ p.world.core p.sum b n) 0) _ _ _ _
+          (both_picked ◌≡◌ (eqb (grant_refusal σ p.world.core p.sum b n) 0) _ _ _ _
           (λ e. passed_same n _ (accepted_clocks σ p.world.core p.sum b n a e))
           (λ e. refl)))
 

@@ -15,7 +15,7 @@ use Rattle.rules.specs.Entries.{Outside, Entry, port_write, port_read, speed_cal
 use Rattle.rules.specs.History.{Past, EntryNoted, History, note_entry_by, history_by}
 use Rattle.rules.specs.Unslowed.{is_speed_call, others, to_others, AsksThree, OnlyThree, SameButSpeed}
 use Rattle.rules.specs.declared.Core.{Core}
-use Rattle.rules.proofs.Choice.{pick-false}
+use Rattle.rules.proofs.Choice.{pick_false}
 
 -- the answers along a list, and the state after it
 unfoldable pub along : {E A X : Type 0} → (E → X → A × X) → List E → X → List A × X
@@ -101,11 +101,11 @@ module _ {M C : Type 0} {σ : Store M} where
   -- an entry that is no speed call stays in the list, and so does its answer
   other_stays : (e : Entry σ C) (es : List (Entry σ C)) → is_speed_call e ≡ false → others (e ∷ es) ≡ e ∷ others es
   unfolding others
-  other_stays e es n = pick-false _ _ _ n
+  other_stays e es n = pick_false _ _ _ n
 
   answer_stays : {A : Type 0} (e : Entry σ C) (es : List (Entry σ C)) (a : A) (as' : List A) → is_speed_call e ≡ false → to_others (e ∷ es) (a ∷ as') ≡ a ∷ to_others es as'
   unfolding to_others
-  answer_stays e es a as' n = pick-false _ _ _ n
+  answer_stays e es a as' n = pick_false _ _ _ n
 
   -- by f all entries, by g those that are no speed calls
   module _ {A X : Type 0} (f g : Entry σ C → X → A × X) (number : A → ℕ) (P : X → Type 0) where

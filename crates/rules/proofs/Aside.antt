@@ -21,7 +21,7 @@ use Rattle.rules.specs.Buffers.{Store, source, destination}
 use Rattle.rules.specs.World.{System, system, buffers_after, step_counted, clocked_by, clocked}
 use Rattle.rules.specs.Refusals.{access_refusal_if}
 use Rattle.rules.specs.declared.Core.{Core}
-use Rattle.rules.proofs.Choice.{both-picked, ends, ◌∥◌, tables}
+use Rattle.rules.proofs.Choice.{both_picked, ends, ◌∥◌, tables}
 use Rattle.rules.proofs.Framing.{slot_timed}
 
 -- ---- validity and refusals
@@ -44,7 +44,7 @@ module _ (n : ℕ) where
   enable_aside : (c : Core) → With (enable c) (enable (with_pending n c))
   unfolding enable
   enable_aside c =
-      both-picked With _ _ _ _ _ (λ e. refl) (λ e. both-picked With _ _ _ _ _ (λ d. refl) (λ d. refl))
+      both_picked With _ _ _ _ _ (λ e. refl) (λ e. both_picked With _ _ _ _ _ (λ d. refl) (λ d. refl))
 
   reading_command_aside : (byte : ℕ) (c : Core) → With (reading_command byte c) (reading_command byte (with_pending n c))
   unfolding reading_command
@@ -57,7 +57,7 @@ module _ (n : ℕ) where
 
   wr3_aside : (byte : ℕ) (c : Core) → With (wr3 byte c) (wr3 byte (with_pending n c))
   unfolding wr3
-  wr3_aside byte c = both-picked With _ _ _ _ _ (λ e. enable_aside c) (λ e. refl)
+  wr3_aside byte c = both_picked With _ _ _ _ _ (λ e. enable_aside c) (λ e. refl)
 
   register_aside : (number byte : ℕ) (c : Core) → With (register number byte c) (register number byte (with_pending n c))
   unfolding register
@@ -72,7 +72,7 @@ module _ (n : ℕ) where
   pub carried_aside : (next byte : ℕ) (c : Core) → carried_out_as next byte (with_pending n c) ≡ with_pending n (carried_out_as next byte c)
   unfolding carried_out_as
   carried_aside next byte c =
-      both-picked With _ _ _ _ _ (λ e. parameter_aside next byte c) (λ e. register_aside _ byte c)
+      both_picked With _ _ _ _ _ (λ e. parameter_aside next byte c) (λ e. register_aside _ byte c)
 
   -- ---- a read
 
@@ -98,15 +98,15 @@ module _ (n code : ℕ) where
 
   moved_aside : (m : ℕ) (c : Core) → Put (moved_at m c) (moved_at m (put c))
   unfolding moved_at
-  moved_aside m c = both-picked Put _ _ _ _ _ (λ e. refl) (λ e. refl)
+  moved_aside m c = both_picked Put _ _ _ _ _ (λ e. refl) (λ e. refl)
 
   slot_end_aside : (c : Core) → PutEnding (slot_end c) (slot_end (put c))
   unfolding slot_end
   -- written out, since what stands at the blanks takes long to find
   slot_end_aside c =
-      both-picked PutEnding (finished c.block) _ _ _ _
+      both_picked PutEnding (finished c.block) _ _ _ _
       (λ e.
-      both-picked PutEnding (every (c.control.restart ∷ ltb 0 (block_count c.block) ∷ []))
+      both_picked PutEnding (every (c.control.restart ∷ ltb 0 (block_count c.block) ∷ []))
       (ending (some c.block.counter) (restarted c)) (ending none (stopped c))
       (ending (some c.block.counter) (restarted (put c))) (ending none (stopped (put c)))
       (λ d. refl) (λ d. refl))
@@ -114,7 +114,7 @@ module _ (n code : ℕ) where
 
   clock_end_aside : (m : ℕ) (c : Core) → PutEnding (clock_end m c) (clock_end m (put c))
   unfolding clock_end
-  clock_end_aside m c = both-picked PutEnding _ _ _ _ _ (λ e. refl) (λ e. slot_end_aside c)
+  clock_end_aside m c = both_picked PutEnding _ _ _ _ _ (λ e. refl) (λ e. slot_end_aside c)
 
   slot_clock_aside : (m : ℕ) (c : Core) → slot_clock m (with_pending n (at_speed code c)) ≡ clock (slot_clock m c).kind (slot_clock m c).moves (slot_clock m c).zeroed (put (slot_clock m c).next)
   unfolding slot_clock kind_at
@@ -143,7 +143,7 @@ module _ (n : ℕ) where
 
   pub clock_aside : (c : Core) → clock_of (with_pending n c) ≡ clock (clock_of c).kind (clock_of c).moves (clock_of c).zeroed (with_pending n (clock_of c).next)
   unfolding clock_of slot_of
-  clock_aside c = both-picked WithClock _ _ _ _ _ (λ e. slot_pending n _ (begun c)) (λ e. refl)
+  clock_aside c = both_picked WithClock _ _ _ _ _ (λ e. slot_pending n _ (begun c)) (λ e. refl)
 
   -- ---- clocks
 

@@ -19,7 +19,7 @@ use Rattle.rules.specs.Clock.{Clock}
 use Rattle.rules.specs.Exactly.{Awaited, by_wr0, by_wr1, by_wr2, by_wr4, by_timing, by_mask_command, tail, LedTo, from_nothing, by_byte, pending_numbers, among, distinct, LowestBit, Unlisted, PendingExact}
 use Rattle.rules.specs.Opened.{opened}
 use Rattle.rules.specs.declared.Core.{Core}
-use Rattle.rules.proofs.Choice.{clash, row_passed, row_taken, not_of_false, either, every_stop, every_at, any-cases, any_none, means_so}
+use Rattle.rules.proofs.Choice.{clash, row_passed, row_taken, not_of_false, either, every_stop, every_at, any_cases, any_none, means_so}
 use Rattle.rules.proofs.Trying.{all_below, below_at}
 use Rattle.rules.proofs.Parameters.{each_number, wr0_valid, timing_valid, a_timing_valid, b_timing_valid, wr4_valid, nothing_valid, prescaler_valid, mask_valid, rest_valid, after_valid}
 use Rattle.rules.proofs.Aside.{carried_aside, read_aside, clock_aside}
@@ -55,16 +55,16 @@ unfolding first_of
 none_below = refl
 
 -- among n rows from k up the lowest bit set is found, or none of them is set
-found-or-clear {ℓ} : {X : Type ℓ} (n k p : ℕ) → Clear k p → (LowestBit (k + n) p (first_of (rows_from n k p) nothing) → X) → (first_of (rows_from n k p) nothing ≡ nothing → Clear (k + n) p → X) → X
+found_or_clear {ℓ} : {X : Type ℓ} (n k p : ℕ) → Clear k p → (LowestBit (k + n) p (first_of (rows_from n k p) nothing) → X) → (first_of (rows_from n k p) nothing ≡ nothing → Clear (k + n) p → X) → X
 unfolding rows_from
-found-or-clear zero k p h f g = g none_below (subst (λ (m : ℕ). Clear m p) (sym (add-zero k)) h)
-found-or-clear (suc n) k p h f g =
+found_or_clear zero k p h f g = g none_below (subst (λ (m : ℕ). Clear m p) (sym (add-zero k)) h)
+found_or_clear (suc n) k p h f g =
     either (bit k p)
     (λ e. f (record { place = k; few = omega arith; value = row_taken _ _ _ e; set = e; first = h }))
     (λ e.
     let r = row_passed (bit k p ⇒ 2 ^ k) (rows_from n (k + 1) p) nothing e in
     let m : k + 1 + n ≡ k + suc n = omega arith in
-    found-or-clear n (k + 1) p (clear_more k p h e)
+    found_or_clear n (k + 1) p (clear_more k p h e)
     (λ q.
     f
     (record {
@@ -77,14 +77,14 @@ found-or-clear (suc n) k p h f g =
     (λ z c. g (r ∙ z) (subst (λ (j : ℕ). Clear j p) m c)))
 
 -- of all ten
-found-or-none {ℓ} : {X : Type ℓ} (p : ℕ) → (LowestBit 10 p (next p) → X) → (next p ≡ nothing → Clear 10 p → X) → X
-found-or-none p f g =
-    found-or-clear 10 0 p (λ i l. absurd (omega (arith, l)))
+found_or_none {ℓ} : {X : Type ℓ} (p : ℕ) → (LowestBit 10 p (next p) → X) → (next p ≡ nothing → Clear 10 p → X) → X
+found_or_none p f g =
+    found_or_clear 10 0 p (λ i l. absurd (omega (arith, l)))
     (λ q. f (record { place = q.place; few = q.few; value = ten_rows p ∙ q.value; set = q.set; first = q.first }))
     (λ z c. g (ten_rows p ∙ z) c)
 
 lowest : (p : ℕ) → (next p ≡ nothing → ⊥) → LowestBit 10 p (next p)
-lowest p some = found-or-none p (λ q. q) (λ z c. absurd (some z))
+lowest p some = found_or_none p (λ q. q) (λ z c. absurd (some z))
 
 -- a bit is not 0
 bit_above : (k : ℕ) → k < 10 → 0 < 2 ^ k
@@ -93,11 +93,11 @@ bit_above k h = ltb-true _ _ (below_at 10 (λ k. ltb 0 (2 ^ k)) refl k h)
 
 none_clear : (p : ℕ) → next p ≡ nothing → Clear 10 p
 none_clear p z =
-    found-or-none p (λ q. let b = bit_above q.place q.few in let v = sym q.value ∙ z in absurd (omega (arith, b, v)))
+    found_or_none p (λ q. let b = bit_above q.place q.few in let v = sym q.value ∙ z in absurd (omega (arith, b, v)))
     (λ z c. c)
 
 clear_none : (p : ℕ) → Clear 10 p → next p ≡ nothing
-clear_none p c = found-or-none p (λ q. clash (sym (c q.place q.few) ∙ q.set)) (λ z d. z)
+clear_none p c = found_or_none p (λ q. clash (sym (c q.place q.few) ∙ q.set)) (λ z d. z)
 
 empty_alone : (p : ℕ) → valid_pending p ≡ true → next p ≡ nothing → p ≡ nothing
 unfolding opened all_below
@@ -113,7 +113,7 @@ among_each : (P : ℕ → Type 0) (p : ℕ) (qs : List ℕ) → Each P qs → am
 unfolding among
 among_each P p [] a e = clash e
 among_each P p (q ∷ qs) a e =
-    any-cases _ _ e (λ h. subst P (sym (eqb-true p q h)) a.0) (λ h. any-cases _ _ h (λ k. among_each P p qs a.1 k) any_none)
+    any_cases _ _ e (λ h. subst P (sym (eqb-true p q h)) a.0) (λ h. any_cases _ _ h (λ k. among_each P p qs a.1 k) any_none)
 
 -- each of them, by a byte that asks for it: bits 3 to 6 of WR0 are the number
 other_awaited : Each Awaited (drop 16 pending_numbers)

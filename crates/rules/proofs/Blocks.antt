@@ -9,18 +9,18 @@ use Rattle.rules.specs.Parts.{with_counter}
 use Rattle.rules.specs.Blocks.{block_count, finished}
 use Rattle.rules.specs.Exactly.{BlockExact}
 use Rattle.rules.specs.declared.Block.{Block}
-use Rattle.rules.proofs.Choice.{pick_true, pick-false, pick-both}
+use Rattle.rules.proofs.Choice.{pick_true, pick_false, pick_both}
 
 -- a block has at most 65,536 bytes
 pub count_most : (b : Block) → b.length < 65536 → block_count b ≤ 65536
 unfolding block_count
-count_most b h = pick-both (λ n. n ≤ 65536) _ _ _ (omega arith) (omega arith)
+count_most b h = pick_both (λ n. n ≤ 65536) _ _ _ (omega arith) (omega arith)
 
 pub block_exact : (b : Block) → BlockExact b
 unfolding block_count finished
 block_exact b =
     record {
-      zxn = λ e. pick-false _ _ _ e;
+      zxn = λ e. pick_false _ _ _ e;
       zilog = λ e. pick_true _ _ _ e;
       end = record { to = λ e. leb-true _ _ e; from = λ h. le-leb _ _ h };
     }

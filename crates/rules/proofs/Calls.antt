@@ -22,7 +22,7 @@ use Rattle.rules.specs.Keeping.{ValidDevice, StaysValid, StaysValidByTest, Hands
 use Rattle.rules.specs.Opened.{opened}
 use Rattle.rules.specs.declared.Clocks.{Clocks}
 use Rattle.rules.specs.declared.Core.{Core}
-use Rattle.rules.proofs.Choice.{pick-cases, pick-both, pick_true, pick-false, either, all_true, true_all}
+use Rattle.rules.proofs.Choice.{pick_cases, pick_both, pick_true, pick_false, either, all_true, true_all}
 use Rattle.rules.proofs.Validity.{core_parts, parts_core}
 use Rattle.rules.proofs.Steady.{steady_control, kept_from, kept_steady, kept_slot, kept_progress}
 use Rattle.rules.proofs.Writing.{write_kept}
@@ -40,7 +40,7 @@ Tells t = t.hit ≡ true → t.number ≡ 0 → ⊥
 missed : (t : Test) (ts : List Test) → Tells t → first_hit (t ∷ ts) ≡ 0 → (t.hit ≡ false) × (first_hit ts ≡ 0)
 unfolding first_hit
 missed t ts n e =
-    either t.hit (λ h. absurd (n h (sym (pick_true _ _ _ h) ∙ e))) (λ h. (h, sym (pick-false _ _ _ h) ∙ e))
+    either t.hit (λ h. absurd (n h (sym (pick_true _ _ _ h) ∙ e))) (λ h. (h, sym (pick_false _ _ _ h) ∙ e))
 
 tells : (k : ℕ) (t : Bool) → Tells (test (suc k) t)
 tells k t h e = omega arith
@@ -96,10 +96,10 @@ module _ {M : Type 0} (σ : Store M) where
   pub grantable : (c : Core) (sum : ℕ) (b : Buffers M) (n : ℕ) → Granted σ c sum b n → grant_refusal σ c sum b n ≡ 0
   unfolding grant_refusal_if lent_refusal_if first_hit
   grantable c sum b n g =
-      pick-false _ _ _ (ap not g.state)
-      ∙ pick-false _ _ _ (ap not (eq-eqb _ _ g.memory))
-      ∙ pick-false _ _ _ (ap not (eq-eqb _ _ g.latches))
-      ∙ pick-false _ _ _ (le-ltb _ _ g.room)
+      pick_false _ _ _ (ap not g.state)
+      ∙ pick_false _ _ _ (ap not (eq-eqb _ _ g.memory))
+      ∙ pick_false _ _ _ (ap not (eq-eqb _ _ g.latches))
+      ∙ pick_false _ _ _ (le-ltb _ _ g.room)
 
 -- ---- a valid device stays valid
 
@@ -130,23 +130,23 @@ power_on_valid =
 unless_valid : (number byte warning : ℕ) (next c : Core) (k : Clocks) → (number ≡ 0 → Kept next) → ValidDevice c k → ValidDevice (unless_refused number byte warning next c k).core (unless_refused number byte warning next c k).clocks
 unfolding unless_refused
 unless_valid number byte warning next c k f s =
-    pick-cases (λ (r : Reply). ValidDevice r.core r.clocks) _ _ _
+    pick_cases (λ (r : Reply). ValidDevice r.core r.clocks) _ _ _
     (λ e. record { core = f (eqb-true _ _ e); sum = s.sum }) (λ e. s)
 
 -- what holds of the core before it, and after it if it is accepted
 pub unless_core : (P : Core → Type 0) (number byte warning : ℕ) (next c : Core) (k : Clocks) → (number ≡ 0 → P next) → P c → P (unless_refused number byte warning next c k).core
 unfolding unless_refused
-unless_core P number byte warning next c k f h = pick-cases (λ (r : Reply). P r.core) _ _ _ (λ e. f (eqb-true _ _ e)) (λ e. h)
+unless_core P number byte warning next c k f h = pick_cases (λ (r : Reply). P r.core) _ _ _ (λ e. f (eqb-true _ _ e)) (λ e. h)
 
 pub unless_number : (number byte warning : ℕ) (next c : Core) (k : Clocks) → (unless_refused number byte warning next c k).answered.number ≡ number
 unfolding unless_refused
 unless_number number byte warning next c k =
-    pick-cases (λ (r : Reply). r.answered.number ≡ number) _ _ _ (λ e. sym (eqb-true _ _ e)) (λ e. refl)
+    pick_cases (λ (r : Reply). r.answered.number ≡ number) _ _ _ (λ e. sym (eqb-true _ _ e)) (λ e. refl)
 
 unless_refused_lem : (number byte warning : ℕ) (next c : Core) (k : Clocks) → ((unless_refused number byte warning next c k).answered.number ≡ 0 → ⊥) → unless_refused number byte warning next c k ≡ record { answered = refused number; core = c; clocks = k }
 unfolding unless_refused
 unless_refused_lem number byte warning next c k =
-    pick-cases
+    pick_cases
     (λ (r : Reply). (r.answered.number ≡ 0 → ⊥) → r ≡ record { answered = refused number; core = c; clocks = k })
     _ _ _ (λ e n. absurd (n refl)) (λ e n. refl)
 
@@ -175,7 +175,7 @@ module _ {M : Type 0} (σ : Store M) where
   grant_valid : (s : System M) (n : ℕ) → ValidSystem s → ValidSystem (grant σ s n).system
   unfolding grant_over
   grant_valid s n h =
-      pick-cases (λ (a : Answer M). ValidSystem a.system) _ _ _
+      pick_cases (λ (a : Answer M). ValidSystem a.system) _ _ _
       (λ e.
       let g = granted σ _ _ _ n (eqb-true _ _ e) in
       record { core = clocked_kept σ n s h.core; sum = (let t = clocked_total σ n s in omega (arith, g.room)) })
@@ -184,13 +184,13 @@ module _ {M : Type 0} (σ : Store M) where
   -- neither a byte nor a warning
   pub grant_plain : (s : System M) (n : ℕ) → ((grant σ s n).answered.byte ≡ 0) × ((grant σ s n).answered.warning ≡ 0)
   unfolding grant_over
-  grant_plain s n = pick-both (λ (a : Answer M). (a.answered.byte ≡ 0) × (a.answered.warning ≡ 0)) _ _ _ (refl, refl) (refl, refl)
+  grant_plain s n = pick_both (λ (a : Answer M). (a.answered.byte ≡ 0) × (a.answered.warning ≡ 0)) _ _ _ (refl, refl) (refl, refl)
 
   -- a refused one hands everything back
   grant_refused : (s : System M) (n : ℕ) → ((grant σ s n).answered.number ≡ 0 → ⊥) → grant σ s n ≡ record { answered = refused (grant_number σ s n); system = s }
   unfolding grant_over
   grant_refused s n =
-      pick-cases
+      pick_cases
       (λ (a : Answer M). (a.answered.number ≡ 0 → ⊥) → a ≡ record { answered = refused (grant_number σ s n); system = s })
       _ _ _ (λ e n. absurd (n refl)) (λ e n. refl)
 
@@ -217,7 +217,7 @@ module _ {M : Type 0} (σ : Store M) where
   unfolding grant_over
   grant_refuses s n k e h =
       sym
-      (pick-false _ _ _ (ne_eqb _ _ (λ z. h (sym e ∙ z))) ∙ (λ i. record { answered = refused (e i); system = s }))
+      (pick_false _ _ _ (ne_eqb _ _ (λ z. h (sym e ∙ z))) ∙ (λ i. record { answered = refused (e i); system = s }))
 
 -- ---- a device that is not valid is refused with 1 by every call
 

@@ -19,32 +19,32 @@ unfolding pick
 pick_true true x y e = refl
 pick_true false x y e = clash e
 
-pub pick-false {ℓ} : {X : Type ℓ} (t : Bool) (x y : X) → t ≡ false → pick t x y ≡ y
+pub pick_false {ℓ} : {X : Type ℓ} (t : Bool) (x y : X) → t ≡ false → pick t x y ≡ y
 unfolding pick
-pick-false true x y e = clash (sym e)
-pick-false false x y e = refl
+pick_false true x y e = clash (sym e)
+pick_false false x y e = refl
 
 -- what holds of either choice under its test holds of the choice
-pub pick-cases {ℓ κ} : {X : Type ℓ} (P : X → Type κ) (t : Bool) (x y : X) → (t ≡ true → P x) → (t ≡ false → P y) → P (pick t x y)
+pub pick_cases {ℓ κ} : {X : Type ℓ} (P : X → Type κ) (t : Bool) (x y : X) → (t ≡ true → P x) → (t ≡ false → P y) → P (pick t x y)
 unfolding pick
-pick-cases P true x y f g = f refl
-pick-cases P false x y f g = g refl
+pick_cases P true x y f g = f refl
+pick_cases P false x y f g = g refl
 
 -- what holds of both choices holds of the choice
-pub pick-both {ℓ κ} : {X : Type ℓ} (P : X → Type κ) (t : Bool) (x y : X) → P x → P y → P (pick t x y)
-pick-both P t x y p q = pick-cases P t x y (λ e. p) (λ e. q)
+pub pick_both {ℓ κ} : {X : Type ℓ} (P : X → Type κ) (t : Bool) (x y : X) → P x → P y → P (pick t x y)
+pick_both P t x y p q = pick_cases P t x y (λ e. p) (λ e. q)
 
 -- two choices by one test
-pub both-picked {ℓ κ μ} : {X : Type ℓ} {Y : Type κ} (R : X → Y → Type μ) (t : Bool) (x y : X) (u v : Y) → (t ≡ true → R x u) → (t ≡ false → R y v) → R (pick t x y) (pick t u v)
+pub both_picked {ℓ κ μ} : {X : Type ℓ} {Y : Type κ} (R : X → Y → Type μ) (t : Bool) (x y : X) (u v : Y) → (t ≡ true → R x u) → (t ≡ false → R y v) → R (pick t x y) (pick t u v)
 unfolding pick
-both-picked R true x y u v f g = f refl
-both-picked R false x y u v f g = g refl
+both_picked R true x y u v f g = f refl
+both_picked R false x y u v f g = g refl
 
 -- a function of a choice
-pub pick-ap {ℓ κ} : {X : Type ℓ} {Y : Type κ} (f : X → Y) (t : Bool) (x y : X) → f (pick t x y) ≡ pick t (f x) (f y)
+pub pick_ap {ℓ κ} : {X : Type ℓ} {Y : Type κ} (f : X → Y) (t : Bool) (x y : X) → f (pick t x y) ≡ pick t (f x) (f y)
 unfolding pick
-pick-ap f true x y = refl
-pick-ap f false x y = refl
+pick_ap f true x y = refl
+pick_ap f false x y = refl
 
 -- ---- the first row of a table
 
@@ -60,8 +60,8 @@ pub data Rows {X : Type 0} (P : X → Type 0) : List (Row X) → X → Type 0 wh
 pub table : {X : Type 0} (P : X → Type 0) {rs : List (Row X)} {x : X} → Rows P rs x → P (first_of rs x)
 unfolding first_of
 table P (below p) = p
-table P (p ⨾ ps) = pick-both P _ _ _ p (table P ps)
-table P (under f ps) = pick-cases P _ _ _ f (λ e. table P ps)
+table P (p ⨾ ps) = pick_both P _ _ _ p (table P ps)
+table P (under f ps) = pick_cases P _ _ _ f (λ e. table P ps)
 
 infixr 5 ◌∥◌
 -- two tables with the same tests: something holds between what their rows give, one by one, and what stands below them
@@ -73,12 +73,12 @@ pub data Pairs {X Y : Type 0} (R : X → Y → Type 0) : List (Row X) → X → 
 pub tables : {X Y : Type 0} (R : X → Y → Type 0) {rs : List (Row X)} {x : X} {qs : List (Row Y)} {y : Y} → Pairs R rs x qs y → R (first_of rs x) (first_of qs y)
 unfolding first_of
 tables R (ends h) = h
-tables R (h ∥ hs) = both-picked R _ _ _ _ _ (λ e. h) (λ e. tables R hs)
+tables R (h ∥ hs) = both_picked R _ _ _ _ _ (λ e. h) (λ e. tables R hs)
 
 -- a row passed by leaves it to those below; one whose test holds settles it
 pub row_passed : {X : Type 0} (r : Row X) (rs : List (Row X)) (x : X) → r.holds ≡ false → first_of (r ∷ rs) x ≡ first_of rs x
 unfolding first_of
-row_passed r rs x e = pick-false _ _ _ e
+row_passed r rs x e = pick_false _ _ _ e
 
 pub row_taken : {X : Type 0} (r : Row X) (rs : List (Row X)) (x : X) → r.holds ≡ true → first_of (r ∷ rs) x ≡ r.result
 unfolding first_of
@@ -104,7 +104,7 @@ unfolding first_of
 shows n [] x e a = (asked (eqb x n) a).0 (eq-eqb x n e)
 shows {F} n (r ∷ rs) x e a =
     let b = asked (eqb r.result n) a in
-    pick-cases (λ (m : ℕ). m ≡ n → F) r.holds _ _ (λ h d. b.0 (eq-eqb _ _ d) h) (λ h d. shows n rs x d b.1) e
+    pick_cases (λ (m : ℕ). m ≡ n → F) r.holds _ _ (λ h d. b.0 (eq-eqb _ _ d) h) (λ h d. shows n rs x d b.1) e
 
 pub not_of_false : (t : Bool) → t ≡ false → not t ≡ true
 not_of_false true e = clash (sym e)
@@ -206,10 +206,10 @@ unfolding any pick
 any_more true ts e = refl
 any_more false ts e = e
 
-pub any-cases {ℓ} : {X : Type ℓ} (t : Bool) (ts : List Bool) → any (t ∷ ts) ≡ true → (t ≡ true → X) → (any ts ≡ true → X) → X
+pub any_cases {ℓ} : {X : Type ℓ} (t : Bool) (ts : List Bool) → any (t ∷ ts) ≡ true → (t ≡ true → X) → (any ts ≡ true → X) → X
 unfolding any pick
-any-cases true ts e f g = f refl
-any-cases false ts e f g = g e
+any_cases true ts e f g = f refl
+any_cases false ts e f g = g e
 
 pub any_none {ℓ} : {X : Type ℓ} → any [] ≡ true → X
 unfolding any
@@ -223,7 +223,7 @@ means_so s t e h = sym (pick_true _ _ _ h) ∙ e
 
 pub so_means : (s t : Bool) → (s ≡ true → t ≡ true) → means s t ≡ true
 unfolding means
-so_means s t f = pick-cases (λ (u : Bool). u ≡ true) s t true f (λ h. refl)
+so_means s t f = pick_cases (λ (u : Bool). u ≡ true) s t true f (λ h. refl)
 
 -- some test of a list, as strict code computes it
 pub any_last : (t : Bool) → any (t ∷ []) ≡ t

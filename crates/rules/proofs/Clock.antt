@@ -18,10 +18,10 @@ use Rattle.rules.specs.Facts.{Kept, SlotLength, bus_time, prescaled, ValidSlot, 
 use Rattle.rules.specs.Clock.{Clock, moved, with_elapsed, moves_at, moved_at, Ending, slot_end, clock_end, slot_clock, begun, clock_of}
 use Rattle.rules.specs.declared.Slot.{Slot}
 use Rattle.rules.specs.declared.Core.{Core}
-use Rattle.rules.proofs.Choice.{clash, pick-cases, all_true}
+use Rattle.rules.proofs.Choice.{clash, pick_cases, all_true}
 use Rattle.rules.proofs.Speed.{BusTime, bus_range}
 use Rattle.rules.proofs.Blocks.{unfinished_room, reloaded_unfinished}
-use Rattle.rules.proofs.Slots.{slot_cases, unmoved-cases, unmoved_first, unmoved_below}
+use Rattle.rules.proofs.Slots.{slot_cases, unmoved_cases, unmoved_first, unmoved_below}
 use Rattle.rules.proofs.Ports.{good_advanced, good_loaded}
 use Rattle.rules.proofs.Steady.{SteadyCore, steady_a, steady_b, steady_block, kept_from, kept_steady, kept_slot, kept_progress}
 
@@ -57,9 +57,9 @@ rest_slot t = resting (record { elapsed = refl; bus = refl; length = refl; burst
 end_kept : (c : Core) → c.enabled ≡ true → SteadyCore c → Kept (slot_end c).core
 unfolding slot_end
 end_kept c on s =
-    pick-cases (λ (x : Ending). Kept x.core) _ _ _
+    pick_cases (λ (x : Ending). Kept x.core) _ _ _
     (λ e.
-    pick-cases (λ (x : Ending). Kept x.core) _ _ _
+    pick_cases (λ (x : Ending). Kept x.core) _ _ _
     (λ (d : every (c.control.restart ∷ ltb 0 (block_count c.block) ∷ []) ≡ true).
     kept_from _
     (steady_a (steady_b (steady_block s _ (omega arith) s.length) (good_loaded _ s.b)) (good_loaded _ s.a))
@@ -71,20 +71,20 @@ end_kept c on s =
 clock_end_kept : (n : ℕ) (c : Core) → c.enabled ≡ true → SteadyCore c → (n < c.slot.length → ValidSlot c.enabled (with_elapsed n c).slot) → (unmoved (with_elapsed n c).slot ≡ true → finished c.block ≡ false) → Kept (clock_end n c).core
 unfolding clock_end
 clock_end_kept n c on s v u =
-    pick-cases (λ (x : Ending). Kept x.core) _ _ _
+    pick_cases (λ (x : Ending). Kept x.core) _ _ _
     (λ (h : ltb n c.slot.length ≡ true). kept_from _ s (v (ltb-true _ _ h)) (λ o m. u m))
     (λ h. end_kept c on s)
 
 slot_kept : (n : ℕ) (c : Core) → SteadyCore c → Turn n c → Kept (slot_clock n c).next
 unfolding slot_clock moved_at
 slot_kept n c s t =
-    pick-cases (λ d. Kept (clock_end n d).core) (moves_at n c) (moved c) c
+    pick_cases (λ d. Kept (clock_end n d).core) (moves_at n c) (moved c) c
     (λ e.
     clock_end_kept n (moved c) t.on (moved_steady c s (t.unfinished (le_of_eq (eqb-true _ _ e)))) (turn_running n c t)
-    (λ u. absurd (unmoved-cases _ u (λ z. omega (arith, t.first)) (λ z. omega (arith, eqb-true n c.slot.bus e)))))
+    (λ u. absurd (unmoved_cases _ u (λ z. omega (arith, t.first)) (λ z. omega (arith, eqb-true n c.slot.bus e)))))
     (λ e.
     clock_end_kept n c t.on s (turn_running n c t)
-    (λ u. unmoved-cases _ u (λ z. absurd (omega (arith, t.first))) (λ z. t.unfinished (le_of_lt z))))
+    (λ u. unmoved_cases _ u (λ z. absurd (omega (arith, t.first))) (λ z. t.unfinished (le_of_lt z))))
 
 -- ---- one clock
 
@@ -92,12 +92,12 @@ slot_kept n c s t =
 pub new_length : (c : Core) → c.control.prescaler < 256 → SlotLength (new_slot c)
 unfolding slot_length larger
 new_length c h =
-    pick-cases
+    pick_cases
     (λ n. SlotLength (record { elapsed = 0; bus = (new_slot c).bus; length = n; burst = c.control.burst }))
     _ _ _ (λ e. bus_time refl)
     (λ (e : eqb c.control.prescaler 0 ≡ false).
     let n = eqb-false c.control.prescaler 0 e in
-    pick-cases
+    pick_cases
     (λ n. SlotLength (record { elapsed = 0; bus = (new_slot c).bus; length = n; burst = c.control.burst }))
     (ltb (new_slot c).bus (32 * c.control.prescaler)) _ _
     (λ l. prescaled (omega (arith, n)) (omega (arith, h)) (omega arith) (le_of_lt (ltb-true _ _ l))) (λ l. bus_time refl))
@@ -150,6 +150,6 @@ begun_turn c k on =
 pub clock_kept : (c : Core) → Kept c → Kept (clock_of c).next
 unfolding clock_of
 clock_kept c k =
-    pick-cases (λ (x : Clock). Kept x.next) _ _ _
+    pick_cases (λ (x : Clock). Kept x.next) _ _ _
     (λ on. slot_kept _ (begun c) (kept_steady c k) (begun_turn c k on))
     (λ e. k)

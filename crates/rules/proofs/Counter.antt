@@ -20,7 +20,7 @@ use Rattle.rules.specs.History.{zeroing}
 use Rattle.rules.specs.Accounts.{held_before}
 use Rattle.rules.specs.Opened.{opened}
 use Rattle.rules.specs.declared.Core.{Core}
-use Rattle.rules.proofs.Choice.{clash, pick-both, below, ◌⨾◌, under, table, pick_true, pick-false, either, any_first, any_more, any-cases, any_none}
+use Rattle.rules.proofs.Choice.{clash, pick_both, below, ◌⨾◌, under, table, pick_true, pick_false, either, any_first, any_more, any_cases, any_none}
 
 -- the counter is as it was
 abbrev Same : Core → Core → Type 0
@@ -28,7 +28,7 @@ Same c d = d.block.counter ≡ c.block.counter
 
 enable_same : (c : Core) → Same c (enable c)
 unfolding enable
-enable_same c = pick-both (Same c) _ _ _ refl (pick-both (Same c) _ _ _ refl refl)
+enable_same c = pick_both (Same c) _ _ _ refl (pick_both (Same c) _ _ _ refl refl)
 
 reading_same : (byte : ℕ) (c : Core) → Same c (reading_command byte c)
 unfolding reading_command
@@ -48,7 +48,7 @@ module _ (byte : ℕ) (c : Core) (load : eqb byte 0xCF ≡ false) (continue : eq
 
   wr3_same : Same c (wr3 byte c)
   unfolding wr3
-  wr3_same = pick-both (Same c) _ _ _ (enable_same c) refl
+  wr3_same = pick_both (Same c) _ _ _ (enable_same c) refl
 
   register_same : (number : ℕ) → Same c (register number byte c)
   unfolding register
@@ -70,15 +70,15 @@ continue_zero c = refl
 
 register_zero : (byte : ℕ) (c : Core) → any (eqb byte 0xCF ∷ eqb byte 0xD3 ∷ []) ≡ true → (register (selects byte) byte c).block.counter ≡ 0
 register_zero byte c e =
-    any-cases _ _ e (λ d. ap (λ (b : ℕ). (register (selects b) b c).block.counter) (eqb-true _ _ d) ∙ load_zero c)
-    (λ r. any-cases _ _ r (λ d. ap (λ (b : ℕ). (register (selects b) b c).block.counter) (eqb-true _ _ d) ∙ continue_zero c) any_none)
+    any_cases _ _ e (λ d. ap (λ (b : ℕ). (register (selects b) b c).block.counter) (eqb-true _ _ d) ∙ load_zero c)
+    (λ r. any_cases _ _ r (λ d. ap (λ (b : ℕ). (register (selects b) b c).block.counter) (eqb-true _ _ d) ∙ continue_zero c) any_none)
 
 -- an accepted write
 zeroing_effect : (byte : ℕ) (c : Core) → zeroing byte c ≡ true → (effect byte c).block.counter ≡ 0
 unfolding effect_over carried_out_as zeroing
 zeroing_effect byte c =
     either (is_pending c.pending) (λ p z. clash (sym (pick_true _ _ _ p) ∙ z))
-    (λ p z. ap (λ (d : Core). d.block.counter) (pick-false _ _ _ p) ∙ register_zero byte c (sym (pick-false _ _ _ p) ∙ z))
+    (λ p z. ap (λ (d : Core). d.block.counter) (pick_false _ _ _ p) ∙ register_zero byte c (sym (pick_false _ _ _ p) ∙ z))
 
 other_effect : (byte : ℕ) (c : Core) → zeroing byte c ≡ false → Same c (effect byte c)
 unfolding effect_over carried_out_as zeroing
@@ -86,8 +86,8 @@ other_effect byte c =
     either (is_pending c.pending)
     (λ p z. ap (λ (d : Core). d.block.counter) (pick_true _ _ _ p) ∙ parameter_same _ byte _)
     (λ p z.
-    let n = sym (pick-false _ _ _ p) ∙ z in
-    ap (λ (d : Core). d.block.counter) (pick-false _ _ _ p)
+    let n = sym (pick_false _ _ _ p) ∙ z in
+    ap (λ (d : Core). d.block.counter) (pick_false _ _ _ p)
     ∙ register_same byte c (not_first _ _ n) (not_second _ _ n) _)
   where
     not_first : (s t : Bool) → any (s ∷ t ∷ []) ≡ false → s ≡ false
@@ -118,14 +118,14 @@ Balanced before x = held_before x.zeroed + x.next.block.counter ≡ before + pic
 end_balanced : (c : Core) → held_before (slot_end c).zeroed + (slot_end c).core.block.counter ≡ c.block.counter
 unfolding slot_end
 end_balanced c =
-    pick-both (λ (x : Ending). held_before x.zeroed + x.core.block.counter ≡ c.block.counter) _ _ _
-    (pick-both (λ (x : Ending). held_before x.zeroed + x.core.block.counter ≡ c.block.counter) _ _ _ (omega arith) (omega arith))
+    pick_both (λ (x : Ending). held_before x.zeroed + x.core.block.counter ≡ c.block.counter) _ _ _
+    (pick_both (λ (x : Ending). held_before x.zeroed + x.core.block.counter ≡ c.block.counter) _ _ _ (omega arith) (omega arith))
     (omega arith)
 
 clock_end_balanced : (n : ℕ) (c : Core) → held_before (clock_end n c).zeroed + (clock_end n c).core.block.counter ≡ c.block.counter
 unfolding clock_end
 clock_end_balanced n c =
-    pick-both (λ (x : Ending). held_before x.zeroed + x.core.block.counter ≡ c.block.counter) _ _ _ (omega arith) (end_balanced c)
+    pick_both (λ (x : Ending). held_before x.zeroed + x.core.block.counter ≡ c.block.counter) _ _ _ (omega arith) (end_balanced c)
 
 moved_balanced : (n : ℕ) (c : Core) → (moved_at n c).block.counter ≡ c.block.counter + pick (moves_at n c) 1 0
 unfolding moved_at
@@ -133,9 +133,9 @@ moved_balanced n c =
     either (moves_at n c)
     (λ e. ap (λ (d : Core). d.block.counter) (pick_true _ _ _ e) ∙ ap (λ (k : ℕ). c.block.counter + k) (sym (pick_true _ _ _ e)))
     (λ e.
-    ap (λ (d : Core). d.block.counter) (pick-false _ _ _ e)
+    ap (λ (d : Core). d.block.counter) (pick_false _ _ _ e)
     ∙ sym (add-zero _)
-    ∙ ap (λ (k : ℕ). c.block.counter + k) (sym (pick-false _ _ _ e)))
+    ∙ ap (λ (k : ℕ). c.block.counter + k) (sym (pick_false _ _ _ e)))
 
 slot_balanced : (n : ℕ) (c : Core) → Balanced c.block.counter (slot_clock n c)
 unfolding slot_clock
@@ -148,4 +148,4 @@ still c = omega arith
 pub clock_balanced : (c : Core) → Balanced c.block.counter (clock_of c)
 unfolding clock_of
 clock_balanced c =
-    pick-both (Balanced c.block.counter) _ _ _ (slot_balanced _ (begun c)) (still _)
+    pick_both (Balanced c.block.counter) _ _ _ (slot_balanced _ (begun c)) (still _)

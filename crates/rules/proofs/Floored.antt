@@ -32,7 +32,7 @@ use Rattle.rules.specs.Opened.{opened}
 use Rattle.rules.specs.declared.Slot.{Slot}
 use Rattle.rules.specs.declared.Clocks.{Clocks}
 use Rattle.rules.specs.declared.Core.{Core}
-use Rattle.rules.proofs.Choice.{pick_true, pick-false, pick-cases, pick-both, both-picked, either, all_true, true_all}
+use Rattle.rules.proofs.Choice.{pick_true, pick_false, pick_cases, pick_both, both_picked, either, all_true, true_all}
 use Rattle.rules.proofs.Speed.{BusTime}
 use Rattle.rules.proofs.Validity.{core_parts, slot_facts, valid_bus}
 use Rattle.rules.proofs.Slots.{slot_begins, slot_runs, slot_cases, larger_left, larger_right, larger_cases}
@@ -102,18 +102,18 @@ answered c sum v f = pick_true _ _ _ v ∙ pick_true _ _ _ (met c f)
 
 invalid : (c : Core) (sum : ℕ) → (valid c sum ≡ true → ⊥) → cpu_floor c sum ≡ 0
 unfolding cpu_floor
-invalid c sum n = either (valid c sum) (λ v. absurd (n v)) (λ v. pick-false _ _ _ v)
+invalid c sum n = either (valid c sum) (λ v. absurd (n v)) (λ v. pick_false _ _ _ v)
 
 unmet : (c : Core) (sum : ℕ) → (AllShared c → ⊥) → cpu_floor c sum ≡ 0
 unfolding cpu_floor
 unmet c sum n =
-    pick-both (λ (k : ℕ). k ≡ 0) (valid c sum) _ _ (either (all_shared c) (λ e. absurd (n (meets c e))) (λ e. pick-false _ _ _ e)) refl
+    pick_both (λ (k : ℕ). k ≡ 0) (valid c sum) _ _ (either (all_shared c) (λ e. absurd (n (meets c e))) (λ e. pick_false _ _ _ e)) refl
 
 -- what holds of 0, and of the bound of a valid core that meets the condition, holds of the answer
 floor_cases : (P : ℕ → Type 0) (c : Core) (sum : ℕ) → P 0 → (valid c sum ≡ true → AllShared c → P (floor_of c)) → P (cpu_floor c sum)
 unfolding cpu_floor
 floor_cases P c sum z f =
-    pick-cases P (valid c sum) _ _ (λ v. pick-cases P (all_shared c) _ _ (λ e. f v (meets c e)) (λ e. z)) (λ v. z)
+    pick_cases P (valid c sum) _ _ (λ v. pick_cases P (all_shared c) _ _ (λ e. f v (meets c e)) (λ e. z)) (λ v. z)
 
 -- the bus time of the slot that runs or begins
 running_range : (t : Bool) (s : Slot) → ValidSlot t s → (s.elapsed ≡ 0 → ⊥) → BusTime s.bus
@@ -218,12 +218,12 @@ left_on c on = pick_true _ _ _ on
 
 left_off : (c : Core) → c.enabled ≡ false → left c ≡ 0
 unfolding left
-left_off c off = pick-false _ _ _ off
+left_off c off = pick_false _ _ _ off
 
 left_most : (most : ℕ) (c : Core) → AllWithin most c → left c ≤ most
 unfolding left
 left_most most c w =
-    pick-both (λ n. n ≤ most) c.enabled _ _ (let o = of_slot most c w in omega (arith, o.bus)) (omega arith)
+    pick_both (λ n. n ≤ most) c.enabled _ _ (let o = of_slot most c w in omega (arith, o.bus)) (omega arith)
 
 -- with none left the clock is the processor's
 left_none : (c : Core) → Shared (slot_of c) → left c ≡ 0 → (clock_of c).kind ≡ cpu_clock
@@ -233,9 +233,9 @@ left_none c f e =
     (λ on.
     let z : (slot_of c).bus - c.slot.elapsed ≡ 0 = sym (left_on c on) ∙ e in
     ap (λ (x : Clock). x.kind) (pick_true c.enabled _ _ on)
-    ∙ pick-false _ _ _ (lt-leb (c.slot.elapsed + 1) (slot_of c).bus (omega (arith, z)))
+    ∙ pick_false _ _ _ (lt-leb (c.slot.elapsed + 1) (slot_of c).bus (omega (arith, z)))
     ∙ pick_true _ _ _ f.burst)
-    (λ off. ap (λ (x : Clock). x.kind) (pick-false c.enabled _ _ off))
+    (λ off. ap (λ (x : Clock). x.kind) (pick_false c.enabled _ _ off))
 
 -- a clock that does not end its slot
 end_left : (n : ℕ) (d : Core) → d.enabled ≡ true → 0 < n → n < d.slot.length → left (clock_end n d).core ≡ d.slot.bus - n
@@ -254,7 +254,7 @@ slot_some c k f on z =
     let less : (slot_of c).bus - n ≡ k = omega (arith, z) in
     let h : n < (slot_of c).length = (let l = f.longer in omega (arith, z, l)) in (
       pick_true _ _ _ (le-leb n (slot_of c).bus (omega (arith, z))),
-      pick-both (λ (d : Core). left (clock_end n d).core ≡ k) (moves_at n (begun c)) (moved (begun c)) (begun c)
+      pick_both (λ (d : Core). left (clock_end n d).core ≡ k) (moves_at n (begun c)) (moved (begun c)) (begun c)
           (end_left n (moved (begun c)) on (omega arith) h ∙ less)
           (end_left n (begun c) on (omega arith) h ∙ less),
     )
@@ -299,7 +299,7 @@ module _ {M : Type 0} (σ : Store M) where
   -- what holds after n clocks, and of the system as it was, holds after a grant
   grant_cases : (P : System M → Type 0) (s : System M) (n : ℕ) → P (clocked σ n s) → P s → P (grant σ s n).system
   unfolding grant_over
-  grant_cases P s n p q = pick-both (λ (a : Answer M). P a.system) _ _ _ p q
+  grant_cases P s n p q = pick_both (λ (a : Answer M). P a.system) _ _ _ p q
 
   -- what holds of the slots to come holds after any clocks
   clocked_within : (most n : ℕ) (s : System M) → AllWithin most s.world.core → AllWithin most (clocked σ n s).world.core
@@ -516,14 +516,14 @@ module _ {M C : Type 0} (σ : Store M) (ω : Outside M C) (most : ℕ) (first : 
   refused_behind : (number n : ℕ) (q p : Past M) → (number ≡ 0 → ⊥) → Behind most first n p → Behind most first (n + pick (eqb number 0) 0 0) (noted_unless number q p).past
   unfolding noted_unless
   refused_behind number n q p h b =
-      both-picked (λ (k : ℕ) (x : Past M). Behind most first (n + k) x) (eqb number 0) 0 0 q p
+      both_picked (λ (k : ℕ) (x : Past M). Behind most first (n + k) x) (eqb number 0) 0 0 q p
       (λ e. absurd (h (eqb-true _ _ e))) (λ e. subst (λ k. Behind most first k p) (sym (add-zero n)) b)
 
   -- a grant, refused or not
   grant_behind : (number m n : ℕ) (p : Past M) → Behind most first n p → Behind most first (n + pick (eqb number 0) m 0) (noted_unless number (grant_passed σ m p) p).past
   unfolding noted_unless
   grant_behind number m n p b =
-      both-picked (λ (k : ℕ) (x : Past M). Behind most first (n + k) x) (eqb number 0) m 0 (grant_passed σ m p) p
+      both_picked (λ (k : ℕ) (x : Past M). Behind most first (n + k) x) (eqb number 0) m 0 (grant_passed σ m p) p
       (λ e. clocks_behind n m _ (same_behind n p _ refl refl b)) (λ e. subst (λ k. Behind most first k p) (sym (add-zero n)) b)
 
   -- one entry

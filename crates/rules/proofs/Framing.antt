@@ -11,7 +11,7 @@ use Rattle.rules.specs.Clock.{Clock, Ending, with_elapsed, moves_at, moved_at, s
 use Rattle.rules.specs.declared.Control.{Control}
 use Rattle.rules.specs.declared.Slot.{Slot}
 use Rattle.rules.specs.declared.Core.{Core}
-use Rattle.rules.proofs.Choice.{pick-both, below, ◌⨾◌, table}
+use Rattle.rules.proofs.Choice.{pick_both, below, ◌⨾◌, table}
 
 -- ---- a write and a read leave the speed, and the slot unless they drop it
 
@@ -23,7 +23,7 @@ module _ (speed : ℕ) (Q : Slot → Type 0) (rest : Q no_slot) where
   module _ (c : Core) (f : Framed c) where
     enable_framed : Framed (enable c)
     unfolding enable
-    enable_framed = pick-both Framed _ _ _ f (pick-both Framed _ _ _ f f)
+    enable_framed = pick_both Framed _ _ _ f (pick_both Framed _ _ _ f f)
 
     command_framed : (byte : ℕ) → Framed (command byte c)
     unfolding command reading_command
@@ -35,7 +35,7 @@ module _ (speed : ℕ) (Q : Slot → Type 0) (rest : Q no_slot) where
     unfolding register wr3
     register_framed number byte =
         table Framed
-        (f ⨾ f ⨾ f ⨾ pick-both Framed _ _ _ enable_framed (f.0, rest) ⨾ f ⨾ f ⨾ command_framed byte ⨾ below f)
+        (f ⨾ f ⨾ f ⨾ pick_both Framed _ _ _ enable_framed (f.0, rest) ⨾ f ⨾ f ⨾ command_framed byte ⨾ below f)
 
     parameter_framed : (which byte : ℕ) → Framed (parameter which byte c)
     unfolding parameter
@@ -43,7 +43,7 @@ module _ (speed : ℕ) (Q : Slot → Type 0) (rest : Q no_slot) where
 
     carried_framed : (byte : ℕ) → Framed (carried_out byte c)
     unfolding carried_out_as
-    carried_framed byte = pick-both Framed _ _ _ (parameter_framed _ byte) (register_framed _ byte)
+    carried_framed byte = pick_both Framed _ _ _ (parameter_framed _ byte) (register_framed _ byte)
 
     pub read_framed : Framed (read_byte c).core
     unfolding read_byte
@@ -67,19 +67,19 @@ module _ (P : ℕ → ℕ → Control → ℕ → Type 0) (Q : Slot → Type 0) 
   end_timed : (c : Core) → Left c → Timed (slot_end c).core
   unfolding slot_end
   end_timed c p =
-      pick-both (λ (x : Ending). Timed x.core) _ _ _
-      (pick-both (λ (x : Ending). Timed x.core) _ _ _ (p, rest) (p, rest)) (p, rest)
+      pick_both (λ (x : Ending). Timed x.core) _ _ _
+      (pick_both (λ (x : Ending). Timed x.core) _ _ _ (p, rest) (p, rest)) (p, rest)
 
   clock_end_timed : (n : ℕ) (c : Core) → Left c → Q (with_elapsed n c).slot → Timed (clock_end n c).core
   unfolding clock_end
-  clock_end_timed n c p q = pick-both (λ (x : Ending). Timed x.core) _ _ _ (p, q) (end_timed c p)
+  clock_end_timed n c p q = pick_both (λ (x : Ending). Timed x.core) _ _ _ (p, q) (end_timed c p)
 
   pub slot_timed : (n : ℕ) (c : Core) → Left c → Q (with_elapsed n c).slot → Timed (slot_clock n c).next
   unfolding slot_clock moved_at
   slot_timed n c p q =
-      pick-both (λ (d : Core). Timed (clock_end n d).core) (moves_at n c) _ _ (clock_end_timed n _ p q) (clock_end_timed n c p q)
+      pick_both (λ (d : Core). Timed (clock_end n d).core) (moves_at n c) _ _ (clock_end_timed n _ p q) (clock_end_timed n c p q)
 
   pub clock_timed : (c : Core) → Timed c → Q (with_elapsed (c.slot.elapsed + 1) (begun c)).slot → Timed (clock_of c).next
   unfolding clock_of
   clock_timed c t q =
-      pick-both (λ (x : Clock). Timed x.next) _ _ _ (slot_timed (c.slot.elapsed + 1) (begun c) t.0 q) t
+      pick_both (λ (x : Clock). Timed x.next) _ _ _ (slot_timed (c.slot.elapsed + 1) (begun c) t.0 q) t

@@ -27,7 +27,7 @@ use Rattle.rules.specs.Numbered.{numbered_system, SameRun, FromSequence, Sequenc
 use Rattle.rules.specs.Opened.{opened}
 use Rattle.rules.specs.declared.Clocks.{Clocks}
 use Rattle.rules.specs.declared.Core.{Core}
-use Rattle.rules.proofs.Choice.{both-picked, all_true}
+use Rattle.rules.proofs.Choice.{both_picked, all_true}
 use Rattle.rules.proofs.Trying.{all_below, below_at}
 use Rattle.rules.proofs.Aside.{valid_aside, access_aside, carried_aside, read_aside, clocked_aside}
 use Rattle.rules.proofs.Sequences.{number_valid, next_same, after_stands, number_once, sequence_of, sequence_stands}
@@ -97,7 +97,7 @@ module _ {M : Type 0} where
   unless_same : (b : Buffers M) (number byte warning : ℕ) (x d : SequenceCore) (k : Clocks) → Valid x → Valid d → SameReply b (unless_refused number byte warning x d k) (unless_refused number byte warning (numbered x) (numbered d) k)
   unfolding unless_refused
   unless_same b number byte warning x d k v e =
-      both-picked (SameReply b) _ _ _ _ _
+      both_picked (SameReply b) _ _ _ _ _
       (λ h. record { answered = refl; system = refl; sequence = v })
       (λ h. record { answered = refl; system = refl; sequence = e })
 
@@ -143,7 +143,7 @@ module _ {M : Type 0} (σ : Store M) where
   unfolding grant_over
   grant_same s n e =
       rw (number_same s n e)
-      (both-picked SameAnswer _ _ _ _ _
+      (both_picked SameAnswer _ _ _ _ _
       (λ z.
       record {
         answered = refl;

@@ -12,7 +12,7 @@ use Rattle.rules.specs.Choice.{means}
 use Rattle.rules.specs.Bytes.{bit}
 use Rattle.rules.specs.Pending.{a_low, a_high, length_low, length_high, a_timing, b_timing, prescaler, b_low, b_high, read_mask, nothing, next, rest, ask, wr0_asks, timing_asks, wr4_asks, asked, used_up, pending_after_as, pending_after, valid_pending}
 use Rattle.rules.specs.Opened.{opened}
-use Rattle.rules.proofs.Choice.{pick-both, below, ◌⨾◌, table, all_true, any-cases, any_none, means_so}
+use Rattle.rules.proofs.Choice.{pick_both, below, ◌⨾◌, table, all_true, any_cases, any_none, means_so}
 use Rattle.rules.proofs.Trying.{all_below, below_at}
 
 abbrev Valid : ℕ → Type 0
@@ -21,12 +21,12 @@ Valid p = valid_pending p ≡ true
 valid_small : (p : ℕ) → Valid p → p < 513
 unfolding valid_pending
 valid_small p e =
-    any-cases _ _ e (λ h. let z : p < 16 = ltb-true _ _ h in omega (arith, z))
-    (λ e. any-cases _ _ e (λ h. let z : p ≡ 16 = eqb-true _ _ h in omega (arith, z))
-    (λ e. any-cases _ _ e (λ h. let z : p ≡ 32 = eqb-true _ _ h in omega (arith, z))
-    (λ e. any-cases _ _ e (λ h. let z : p ≡ 64 = eqb-true _ _ h in omega (arith, z))
-    (λ e. any-cases _ _ e (λ h. let z : p < 512 = ltb-true _ _ (all_true _ h).1.0 in omega (arith, z))
-    (λ e. any-cases _ _ e (λ h. let z : p ≡ 512 = eqb-true _ _ h in omega (arith, z)) any_none)))))
+    any_cases _ _ e (λ h. let z : p < 16 = ltb-true _ _ h in omega (arith, z))
+    (λ e. any_cases _ _ e (λ h. let z : p ≡ 16 = eqb-true _ _ h in omega (arith, z))
+    (λ e. any_cases _ _ e (λ h. let z : p ≡ 32 = eqb-true _ _ h in omega (arith, z))
+    (λ e. any_cases _ _ e (λ h. let z : p ≡ 64 = eqb-true _ _ h in omega (arith, z))
+    (λ e. any_cases _ _ e (λ h. let z : p < 512 = ltb-true _ _ (all_true _ h).1.0 in omega (arith, z))
+    (λ e. any_cases _ _ e (λ h. let z : p ≡ 512 = eqb-true _ _ h in omega (arith, z)) any_none)))))
 
 -- a test that holds of every valid number up to 512 holds of every valid number
 pub each_number : (f : ℕ → Bool) → all_below 513 (λ p. means (valid_pending p) (f p)) ≡ true → (p : ℕ) → Valid p → f p ≡ true
@@ -90,7 +90,7 @@ nothing_valid = refl
 
 pub timing_valid : (timing : ℕ) → Valid timing → (byte : ℕ) → Valid (timing_asks timing byte)
 unfolding ask
-timing_valid timing v byte = pick-both Valid _ _ _ (rw (add-zero timing) v) nothing_valid
+timing_valid timing v byte = pick_both Valid _ _ _ (rw (add-zero timing) v) nothing_valid
 
 pub a_timing_valid : Valid a_timing
 unfolding opened
@@ -122,7 +122,7 @@ rest_valid p e = each_number (λ p. valid_pending (rest p)) refl p e
 
 used_valid : (byte p : ℕ) → Valid p → Valid (used_up (next p) byte p)
 unfolding used_up
-used_valid byte p e = pick-both Valid _ _ _ prescaler_valid (rest_valid p e)
+used_valid byte p e = pick_both Valid _ _ _ prescaler_valid (rest_valid p e)
 
 asked_valid : (byte p : ℕ) → Valid p → Valid (asked byte p)
 unfolding asked
@@ -137,4 +137,4 @@ asked_valid byte p e =
 
 pub after_valid : (byte p : ℕ) → Valid p → Valid (pending_after byte p)
 unfolding pending_after_as
-after_valid byte p e = pick-both Valid _ _ _ (used_valid byte p e) (asked_valid byte p e)
+after_valid byte p e = pick_both Valid _ _ _ (used_valid byte p e) (asked_valid byte p e)

@@ -11,7 +11,7 @@ use Rattle.rules.specs.Ports.{configured, cycle_of, timed, addressed_low, addres
 use Rattle.rules.specs.Validity.{valid_port}
 use Rattle.rules.specs.Facts.{PortInRange, ValidCycle}
 use Rattle.rules.specs.declared.Port.{Port}
-use Rattle.rules.proofs.Choice.{pick-both}
+use Rattle.rules.proofs.Choice.{pick_both}
 use Rattle.rules.proofs.Validity.{port_cycle}
 
 -- valid, and within its types
@@ -27,11 +27,11 @@ good_configured p byte g = record { cycle = omega arith; range = omega arith }
 
 cycle_least : (byte : ℕ) → 2 ≤ cycle_of byte
 unfolding cycle_of
-cycle_least byte = pick-both (λ n. 2 ≤ n) _ _ _ (omega arith) (pick-both (λ n. 2 ≤ n) _ _ _ (omega arith) (omega arith))
+cycle_least byte = pick_both (λ n. 2 ≤ n) _ _ _ (omega arith) (pick_both (λ n. 2 ≤ n) _ _ _ (omega arith) (omega arith))
 
 cycle_most : (byte : ℕ) → cycle_of byte ≤ 4
 unfolding cycle_of
-cycle_most byte = pick-both (λ n. n ≤ 4) _ _ _ (omega arith) (pick-both (λ n. n ≤ 4) _ _ _ (omega arith) (omega arith))
+cycle_most byte = pick_both (λ n. n ≤ 4) _ _ _ (omega arith) (pick_both (λ n. n ≤ 4) _ _ _ (omega arith) (omega arith))
 
 pub good_timed : (p : Port) (byte : ℕ) → GoodPort p → GoodPort (timed byte p)
 good_timed p byte g = record { cycle = record { least = cycle_least byte; most = cycle_most byte }; range = omega arith }
@@ -57,7 +57,7 @@ good_loaded p g = record { cycle = omega arith; range = omega arith }
 stepped_fits : (step pointer : ℕ) → pointer < 65536 → stepped step pointer < 65536
 unfolding stepped
 stepped_fits step pointer h =
-    pick-both (λ n. n < 65536) _ _ _ (omega arith) (pick-both (λ n. n < 65536) _ _ _ (omega arith) h)
+    pick_both (λ n. n < 65536) _ _ _ (omega arith) (pick_both (λ n. n < 65536) _ _ _ (omega arith) h)
 
 pub good_advanced : (p : Port) → GoodPort p → GoodPort (advanced p)
 good_advanced p g =

@@ -23,7 +23,7 @@ use Rattle.rules.specs.Accounts.{held_before}
 use Rattle.rules.specs.Reached.{CountersNoted, EveryReached, NoneIs, Lends, WrongMemory, WrongLatches, OwnServe, AsksAbove, OnlyAbove, AnswersReached}
 use Rattle.rules.specs.declared.Slot.{Slot}
 use Rattle.rules.specs.declared.Core.{Core}
-use Rattle.rules.proofs.Choice.{clash, pick_true, pick-false, pick-cases, pick-both, either, all_true, any-cases, any_none}
+use Rattle.rules.proofs.Choice.{clash, pick_true, pick_false, pick_cases, pick_both, either, all_true, any_cases, any_none}
 use Rattle.rules.proofs.Slots.{slot_runs, unmoved_first, unmoved_below}
 use Rattle.rules.proofs.Steady.{kept_progress}
 use Rattle.rules.proofs.Blocks.{unfinished_room}
@@ -50,7 +50,7 @@ move_unmoved c e =
 move_room : (c : Core) → Kept c → (clock_of c).moves ≡ true → c.block.counter + 1 ≤ 65536
 unfolding clock_of slot_clock
 move_room c k =
-    pick-cases (λ (x : Clock). x.moves ≡ true → c.block.counter + 1 ≤ 65536) _ _ _
+    pick_cases (λ (x : Clock). x.moves ≡ true → c.block.counter + 1 ≤ 65536) _ _ _
     (λ on m. unfinished_room _ k.range.length (kept_progress c k on (move_unmoved c (eqb-true _ _ m))))
     (λ e m. clash m)
 
@@ -60,7 +60,7 @@ zeroed_most c k =
     let h = clock_balanced c in
     either (clock_of c).moves
     (λ m. let p = pick_true {X = ℕ} (clock_of c).moves 1 0 m in let r = move_room c k m in omega (arith, h, p, r))
-    (λ m. let p = pick-false {X = ℕ} (clock_of c).moves 1 0 m in omega (arith, h, p, k.valid.counter))
+    (λ m. let p = pick_false {X = ℕ} (clock_of c).moves 1 0 m in omega (arith, h, p, k.valid.counter))
 
 module _ {M : Type 0} (σ : Store M) where
   clocks_noted_lem : (n : ℕ) (p : Past M) → Kept p.world.core → CountersNoted p.events → CountersNoted (clocks_passed σ n p).events × Kept (clocks_passed σ n p).world.core
@@ -74,14 +74,14 @@ module _ {M C : Type 0} (σ : Store M) (ω : Outside M C) where
   entry_noted : (e : Entry σ C) (p : Past M) → Kept p.world.core → CountersNoted p.events → CountersNoted (note_entry σ ω e p).past.events
   unfolding noted_unless write_passed CountersNoted
   entry_noted (port_write port byte) p k h =
-      pick-both (λ (q : Past M). CountersNoted q.events) _ _ _
-      (pick-both (λ (q : Past M). CountersNoted q.events) _ _ _ (k.valid.counter, h) h) h
-  entry_noted (port_read port) p k h = pick-both (λ (q : Past M). CountersNoted q.events) _ _ _ h h
-  entry_noted (speed_call code) p k h = pick-both (λ (q : Past M). CountersNoted q.events) _ _ _ h h
+      pick_both (λ (q : Past M). CountersNoted q.events) _ _ _
+      (pick_both (λ (q : Past M). CountersNoted q.events) _ _ _ (k.valid.counter, h) h) h
+  entry_noted (port_read port) p k h = pick_both (λ (q : Past M). CountersNoted q.events) _ _ _ h h
+  entry_noted (speed_call code) p k h = pick_both (λ (q : Past M). CountersNoted q.events) _ _ _ h h
   entry_noted (clock_grant n) p k h =
-      pick-both (λ (q : Past M). CountersNoted q.events) _ _ _ (clocks_noted_lem σ n _ k h).0 h
+      pick_both (λ (q : Past M). CountersNoted q.events) _ _ _ (clocks_noted_lem σ n _ k h).0 h
   entry_noted (other_grant n b wrong) p k h =
-      pick-both (λ (q : Past M). CountersNoted q.events) _ _ _ (clocks_noted_lem σ n _ k h).0 h
+      pick_both (λ (q : Past M). CountersNoted q.events) _ _ _ (clocks_noted_lem σ n _ k h).0 h
   entry_noted (outside_change x) p k h = h
 
   -- a list of entries
@@ -152,10 +152,10 @@ access_small c sum port n k e h l = let m = (access_exact c sum port).most in om
 -- nor is a speed call with 4 or 5
 speed_apart : (c : Core) (sum code n k : ℕ) → n ≡ speed_refusal c sum code → n ≡ k → 4 ≤ k → k ≤ 5 → ⊥
 speed_apart c sum code n k e h l m =
-    any-cases _ _ (speed_exact c sum code).other (λ z. let d = eqb-true (speed_refusal c sum code) 0 z in omega (arith, e, h, l, d))
+    any_cases _ _ (speed_exact c sum code).other (λ z. let d = eqb-true (speed_refusal c sum code) 0 z in omega (arith, e, h, l, d))
     (λ r.
-    any-cases _ _ r (λ z. let d = eqb-true (speed_refusal c sum code) 1 z in omega (arith, e, h, l, d))
-    (λ q. any-cases _ _ q (λ z. let d = eqb-true (speed_refusal c sum code) 7 z in omega (arith, e, h, m, d)) any_none))
+    any_cases _ _ r (λ z. let d = eqb-true (speed_refusal c sum code) 1 z in omega (arith, e, h, l, d))
+    (λ q. any_cases _ _ q (λ z. let d = eqb-true (speed_refusal c sum code) 7 z in omega (arith, e, h, m, d)) any_none))
 
 -- a grant of an own memory is not answered with 4, and one of own latches not with 5
 grant_not_four : (c : Core) (sum : ℕ) (b : Buffers (List ℕ)) (n : ℕ) → length b.memory ≡ 65536 → grant_refusal flat c sum b n ≡ 4 → ⊥
@@ -193,7 +193,7 @@ own_serve (e ∷ es) s o = (entry_four e s o, entry_five e s o, own_serve es _ (
 
 full_memory : (n : ℕ) → n ≡ 65536 → length_refusal n ≡ 0
 unfolding first_hit
-full_memory n e = pick-false _ _ _ (ap not (eq-eqb _ _ e))
+full_memory n e = pick_false _ _ _ (ap not (eq-eqb _ _ e))
 
 -- 7 is answered to a speed call of a code above 3
 grant_not_seven : (c : Core) (sum : ℕ) (b : Buffers (List ℕ)) (n k : ℕ) → k ≡ grant_refusal flat c sum b n → k ≡ 7 → ⊥

@@ -15,13 +15,13 @@ use Rattle.rules.specs.Exactly.{onward, ChosenRead, ChosenExact, LowFirst}
 use Rattle.rules.specs.Opened.{opened}
 use Rattle.rules.specs.declared.Status.{Status}
 use Rattle.rules.specs.declared.Core.{Core}
-use Rattle.rules.proofs.Choice.{clash, pick-cases, below, ◌⨾◌, table, pick_true, pick-false, either, any-cases, any_none, pick-both}
+use Rattle.rules.proofs.Choice.{clash, pick_cases, below, ◌⨾◌, table, pick_true, pick_false, either, any_cases, any_none, pick_both}
 use Rattle.rules.proofs.Trying.{all_below, below_at}
 use Rattle.rules.proofs.Steady.{steady_readback, kept_from, kept_steady, kept_slot, kept_progress}
 
 after_small : (k : ℕ) → after k ≤ 6
 unfolding after
-after_small k = pick-cases (λ n. n ≤ 6) _ _ _ (λ (e : ltb k 6 ≡ true). omega (arith, ltb-true k 6 e)) (λ e. omega arith)
+after_small k = pick_cases (λ n. n ≤ 6) _ _ _ (λ (e : ltb k 6 ≡ true). omega (arith, ltb-true k 6 e)) (λ e. omega arith)
 
 -- the search, one place after the other
 pub seek_end : (n mask k : ℕ) → n ≡ 0 → seek n mask k ≡ k
@@ -38,7 +38,7 @@ pub seek_on : (n mask k : ℕ) → (n ≡ 0 → ⊥) → bit k mask ≡ false �
 unfolding seek
 seek_on zero mask k h e = absurd (h refl)
 seek_on (suc n) mask k h e =
-    pick-false _ _ _ e ∙ ap (λ (m : ℕ). seek m mask (after k)) (let z : n ≡ suc n - 1 = omega arith in z)
+    pick_false _ _ _ e ∙ ap (λ (m : ℕ). seek m mask (after k)) (let z : n ≡ suc n - 1 = omega arith in z)
 
 -- ---- the register chosen
 
@@ -52,7 +52,7 @@ onward_suc n k = refl
 
 seek_suc : (n mask k : ℕ) → bit k mask ≡ false → seek (suc n) mask k ≡ seek n mask (after k)
 unfolding seek
-seek_suc n mask k e = pick-false _ _ _ e
+seek_suc n mask k e = pick_false _ _ _ e
 
 -- the search finds the first register in the mask among so many, or none of them is in it
 data Sought (n mask k : ℕ) : Type 0 where
@@ -92,12 +92,12 @@ masks_tried = refl
 
 -- where a test does not hold, another of the list does
 any_but : (t : Bool) (ts : List Bool) → t ≡ false → any (t ∷ ts) ≡ true → any ts ≡ true
-any_but t ts e h = any-cases t ts h (λ d. clash (sym e ∙ d)) (λ d. d)
+any_but t ts e h = any_cases t ts h (λ d. clash (sym e ∙ d)) (λ d. d)
 
 no_bits : (mask : ℕ) → mask ≤ 127 → bit 0 mask ≡ false → bit 1 mask ≡ false → bit 2 mask ≡ false → bit 3 mask ≡ false → bit 4 mask ≡ false → bit 5 mask ≡ false → bit 6 mask ≡ false → mask ≡ 0
 unfolding some_bit
 no_bits mask m b0 b1 b2 b3 b4 b5 b6 =
-    any-cases _ _ (below_at 128 some_bit masks_tried mask (omega (arith, m))) (λ e. eqb-true mask 0 e)
+    any_cases _ _ (below_at 128 some_bit masks_tried mask (omega (arith, m))) (λ e. eqb-true mask 0 e)
     (λ h. any_none (any_but _ _ b6 (any_but _ _ b5 (any_but _ _ b4 (any_but _ _ b3 (any_but _ _ b2 (any_but _ _ b1 (any_but _ _ b0 h))))))))
 
 -- seven registers, going round, are all of them
@@ -123,8 +123,8 @@ chosen_exact mask position m n p = from (sought 7 mask position)
 status_small : (s : Status) → status_byte s < 256
 unfolding status_byte
 status_small s =
-    let e = pick-both {X = ℕ} (λ n. n ≤ 32) s.e 32 0 (omega arith) (omega arith) in
-    let t = pick-both {X = ℕ} (λ n. n ≤ 1) s.t 1 0 (omega arith) (omega arith) in
+    let e = pick_both {X = ℕ} (λ n. n ≤ 32) s.e 32 0 (omega arith) (omega arith) in
+    let t = pick_both {X = ℕ} (λ n. n ≤ 1) s.t 1 0 (omega arith) (omega arith) in
     omega (arith, e, t)
 
 register_small : (k : ℕ) (c : Core) → register_byte k c < 256

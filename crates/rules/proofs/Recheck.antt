@@ -32,7 +32,7 @@ use Rattle.rules.specs.Recheck.{first_clock_with_recheck, clock_with_recheck, re
 use Rattle.rules.specs.Opened.{opened}
 use Rattle.rules.specs.declared.Clocks.{Clocks}
 use Rattle.rules.specs.declared.Core.{Core}
-use Rattle.rules.proofs.Choice.{clash, pick_true, pick-false, pick-cases, pick-both, ◌⨾◌, below, table, both_ways, not_of_false, either, all_true, true_all, every_stop, every_stop_later}
+use Rattle.rules.proofs.Choice.{clash, pick_true, pick_false, pick_cases, pick_both, ◌⨾◌, below, table, both_ways, not_of_false, either, all_true, true_all, every_stop, every_stop_later}
 use Rattle.rules.proofs.Blocks.{reloaded_unfinished}
 use Rattle.rules.proofs.Validity.{core_parts, slot_facts, progress_facts}
 use Rattle.rules.proofs.Slots.{unmoved_first, free_settled}
@@ -78,9 +78,9 @@ valid_unhit c v = parts_unhit c (core_parts c v)
 end_unhit : (c : Core) → Unhit (slot_end c).core
 unfolding slot_end
 end_unhit c =
-    pick-cases (λ (x : Ending). Unhit x.core) _ _ _
+    pick_cases (λ (x : Ending). Unhit x.core) _ _ _
     (λ e.
-    pick-cases (λ (x : Ending). Unhit x.core) _ _ _
+    pick_cases (λ (x : Ending). Unhit x.core) _ _ _
     (λ (d : every (c.control.restart ∷ ltb 0 (block_count c.block) ∷ []) ≡ true).
     unfinished_unhit _ (reloaded_unfinished c.block (ltb-true _ _ (all_true _ d).1.0)))
     (λ d. off_unhit _ refl))
@@ -90,14 +90,14 @@ end_unhit c =
 clock_end_unhit : (n : ℕ) (c : Core) → 0 < n → Unhit (clock_end n c).core
 unfolding clock_end
 clock_end_unhit n c h =
-    pick-cases (λ (x : Ending). Unhit x.core) _ _ _
+    pick_cases (λ (x : Ending). Unhit x.core) _ _ _
     (λ e. inside_unhit _ (λ z. omega (arith, z, h)))
     (λ e. end_unhit c)
 
 clock_unhit : (c : Core) → Unhit (clock_of c).next
 unfolding clock_of slot_clock
 clock_unhit c =
-    pick-cases (λ (x : Clock). Unhit x.next) _ _ _
+    pick_cases (λ (x : Clock). Unhit x.next) _ _ _
     (λ on. clock_end_unhit (c.slot.elapsed + 1) (moved_at (c.slot.elapsed + 1) (begun c)) (omega arith))
     (off_unhit c)
 
@@ -122,8 +122,8 @@ module _ (c : Core) (f : Away c) where
   enable_unhit : Unhit (enable c)
   unfolding enable
   enable_unhit =
-      pick-cases Unhit _ _ _ (λ on. away_unhit c f)
-      (λ e. pick-cases Unhit _ _ _ (λ d. away_unhit _ f) (λ d. unfinished_unhit _ d))
+      pick_cases Unhit _ _ _ (λ on. away_unhit c f)
+      (λ e. pick_cases Unhit _ _ _ (λ d. away_unhit _ f) (λ d. unfinished_unhit _ d))
 
   command_unhit : (byte : ℕ) → Unhit (command byte c)
   unfolding command reading_command
@@ -145,7 +145,7 @@ module _ (c : Core) (f : Away c) where
       (away_unhit _ f
       ⨾ away_unhit _ f
       ⨾ away_unhit _ f
-      ⨾ pick-both Unhit _ _ _ enable_unhit (off_unhit _ refl)
+      ⨾ pick_both Unhit _ _ _ enable_unhit (off_unhit _ refl)
       ⨾ away_unhit _ f
       ⨾ away_unhit _ f
       ⨾ command_unhit byte
@@ -160,7 +160,7 @@ module _ (c : Core) (f : Away c) where
 
   carried_unhit : (byte : ℕ) → Unhit (carried_out byte c)
   unfolding carried_out_as
-  carried_unhit byte = pick-both Unhit _ _ _ (parameter_unhit _ byte) (register_unhit _ byte)
+  carried_unhit byte = pick_both Unhit _ _ _ (parameter_unhit _ byte) (register_unhit _ byte)
 
 written_unhit : (port byte : ℕ) (c : Core) → Away c → Unhit (written port byte c)
 unfolding effect_over recheck_hits
@@ -190,7 +190,7 @@ speed_unhit c k code h = unless_core Unhit _ _ _ _ c k (λ e. h) h
 grant_unhit : {M : Type 0} (σ : Store M) (s : System M) (n : ℕ) → Unhit s.world.core → Unhit (grant σ s n).system.world.core
 unfolding grant_over
 grant_unhit σ s n h =
-    pick-both (λ (a : Answer _). Unhit a.system.world.core) _ _ _ (clocked_unhit σ s n h) h
+    pick_both (λ (a : Answer _). Unhit a.system.world.core) _ _ _ (clocked_unhit σ s n h) h
 
 module _ {M C : Type 0} (σ : Store M) (ω : Outside M C) where
   entry_unhit : (e : Entry σ C) (s : System M) → Unhit s.world.core → Unhit (enter σ ω e s).system.world.core
@@ -210,20 +210,20 @@ module _ {M C : Type 0} (σ : Store M) (ω : Outside M C) where
 
 off_same : (c : Core) → c.enabled ≡ false → clock_with_recheck c ≡ clock_of c
 unfolding clock_with_recheck clock_of
-off_same c e = pick-false _ _ _ e ∙ sym (pick-false _ _ _ e)
+off_same c e = pick_false _ _ _ e ∙ sym (pick_false _ _ _ e)
 
 first_same : (c : Core) → c.enabled ≡ true → c.slot.elapsed ≡ 0 → finished c.block ≡ false → clock_with_recheck c ≡ clock_of c
 unfolding clock_with_recheck first_clock_with_recheck
 first_same c on z u =
     pick_true _ _ _ on
     ∙ pick_true _ _ _ (eq-eqb _ _ z)
-    ∙ pick-false _ _ _ u
+    ∙ pick_false _ _ _ u
     ∙ ap (λ (n : ℕ). slot_clock (n + 1) (with_slot (new_slot c) c)) (sym z)
     ∙ sym (clock_first c on z)
 
 later_same : (c : Core) → c.enabled ≡ true → (c.slot.elapsed ≡ 0 → ⊥) → clock_with_recheck c ≡ clock_of c
 unfolding clock_with_recheck
-later_same c on z = pick_true _ _ _ on ∙ pick-false _ _ _ (ne_eqb _ _ z) ∙ sym (clock_later c on z)
+later_same c on z = pick_true _ _ _ on ∙ pick_false _ _ _ (ne_eqb _ _ z) ∙ sym (clock_later c on z)
 
 clocks_same : (c : Core) → Unhit c → clock_with_recheck c ≡ clock_of c
 unfolding recheck_hits

@@ -16,7 +16,7 @@ use Rattle.rules.specs.Calls.{Answer, write_reply, read_reply, speed_reply, gran
 use Rattle.rules.specs.Exactly.{ValidExact, AccessExact, SpeedRefusalExact, GrantExact, RefusalsExact}
 use Rattle.rules.specs.declared.Clocks.{Clocks}
 use Rattle.rules.specs.declared.Core.{Core}
-use Rattle.rules.proofs.Choice.{pick-cases, every_stop, every_at}
+use Rattle.rules.proofs.Choice.{pick_cases, every_stop, every_at}
 use Rattle.rules.proofs.Validity.{core_parts, parts_core, port_cycle, cycle_port, readback_reading, reading_readback, slot_facts, facts_slot}
 use Rattle.rules.proofs.Calls.{unless_number}
 
@@ -133,7 +133,7 @@ speed_number c k code = unless_number _ _ _ _ c k
 grant_number_lem : (s : System (List ℕ)) (n : ℕ) → (grant flat s n).answered.number ≡ grant_number flat s n
 unfolding grant_over
 grant_number_lem s n =
-    pick-cases (λ (a : Answer (List ℕ)). a.answered.number ≡ grant_number flat s n) _ _ _ (λ e. sym (eqb-true _ _ e)) (λ e. refl)
+    pick_cases (λ (a : Answer (List ℕ)). a.answered.number ≡ grant_number flat s n) _ _ _ (λ e. sym (eqb-true _ _ e)) (λ e. refl)
 
 pub refusals_exact : RefusalsExact
 refusals_exact =

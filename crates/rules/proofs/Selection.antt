@@ -16,7 +16,7 @@ use Rattle.rules.specs.Registers.{register, in_mode, carried_out, effect, writte
 use Rattle.rules.specs.Exactly.{Exactly, holding, selected, selecting, SelectionExact}
 use Rattle.rules.specs.Opened.{opened}
 use Rattle.rules.specs.declared.Core.{Core}
-use Rattle.rules.proofs.Choice.{pick-false, row_passed, row_taken, shows, not_of_false, all_true, true_all, every_at}
+use Rattle.rules.proofs.Choice.{pick_false, row_passed, row_taken, shows, not_of_false, all_true, true_all, every_at}
 
 pub one_register : selecting 1 256 ≡ 232
 unfolding opened holding selecting
@@ -43,13 +43,13 @@ idle byte e =
     let h4 = none_first _ _ h3.1 in
     let h5 = none_first _ _ h4.1 in
     let h6 = none_first _ _ h5.1 in
-    pick-false _ _ _ h0.0
-    ∙ pick-false _ _ _ h1.0
-    ∙ pick-false _ _ _ h2.0
-    ∙ pick-false _ _ _ h3.0
-    ∙ pick-false _ _ _ h4.0
-    ∙ pick-false _ _ _ h5.0
-    ∙ pick-false _ _ _ h6.0
+    pick_false _ _ _ h0.0
+    ∙ pick_false _ _ _ h1.0
+    ∙ pick_false _ _ _ h2.0
+    ∙ pick_false _ _ _ h3.0
+    ∙ pick_false _ _ _ h4.0
+    ∙ pick_false _ _ _ h5.0
+    ∙ pick_false _ _ _ h6.0
 
 -- ---- WR0 and WR4 by their bits
 
@@ -100,8 +100,8 @@ idle_asked byte p e = simp (e, not_mask byte e)
 idle_effect : (byte : ℕ) (c : Core) → selects byte ≡ 7 → is_pending c.pending ≡ false → effect byte c ≡ c
 unfolding effect_over carried_out_as pending_after_as
 idle_effect byte c h p =
-    let q : pending_after byte c.pending ≡ c.pending = pick-false _ _ _ p ∙ idle_asked byte _ h in
-    let d : carried_out byte c ≡ c = pick-false _ _ _ p ∙ idle_register byte c h in
+    let q : pending_after byte c.pending ≡ c.pending = pick_false _ _ _ p ∙ idle_asked byte _ h in
+    let d : carried_out byte c ≡ c = pick_false _ _ _ p ∙ idle_register byte c h in
     λ i. with_pending (q i) (d i)
 
 idle_written : (port byte : ℕ) (c : Core) → selected byte ≡ 0 → is_pending c.pending ≡ false → written port byte c ≡ in_mode port c

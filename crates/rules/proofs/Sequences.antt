@@ -13,7 +13,7 @@ use Rattle.rules.specs.Bytes.{bit}
 use Rattle.rules.specs.Pending.{a_low, a_high, length_low, length_high, a_timing, b_timing, prescaler, b_low, b_high, nothing, next, is_pending, rest, ask, wr0_asks, timing_asks, wr4_asks, asked, used_up, pending_after_as, pending_after, valid_pending}
 use Rattle.rules.specs.Sequences.{Sequence, codes, empty, after_first, in_front, wr0_sequence, timing_sequence, wr4_sequence, sequence_asked, sequence_used_up, sequence_after, follows, valid_sequence, parameter_of, bit_of, number_of}
 use Rattle.rules.specs.Opened.{opened}
-use Rattle.rules.proofs.Choice.{clash, both-picked, ends, ◌∥◌, tables, all_true, any-cases, any_none, means_so}
+use Rattle.rules.proofs.Choice.{clash, both_picked, ends, ◌∥◌, tables, all_true, any_cases, any_none, means_so}
 use Rattle.rules.proofs.Trying.{all_below, below_at}
 use Rattle.rules.proofs.Parameters.{each_number}
 
@@ -26,9 +26,9 @@ Valid q = valid_sequence q ≡ true
 follows_small : (x y : ℕ) → follows x y ≡ true → y ≤ 10
 unfolding follows
 follows_small x y e =
-    any-cases _ _ e (λ h. let z : y ≡ 0 = eqb-true _ _ h in omega (arith, z))
-    (λ e. any-cases _ _ e (λ h. let z : y ≤ 4 = leb-true _ _ (all_true _ h).1.1.0 in omega (arith, z))
-    (λ e. any-cases _ _ e (λ h. let z : y ≤ 9 = leb-true _ _ (all_true _ h).1.1.0 in omega (arith, z)) any_none))
+    any_cases _ _ e (λ h. let z : y ≡ 0 = eqb-true _ _ h in omega (arith, z))
+    (λ e. any_cases _ _ e (λ h. let z : y ≤ 4 = leb-true _ _ (all_true _ h).1.1.0 in omega (arith, z))
+    (λ e. any_cases _ _ e (λ h. let z : y ≤ 9 = leb-true _ _ (all_true _ h).1.1.0 in omega (arith, z)) any_none))
 
 -- a test of every sequence of codes up to 10, each following the one before it
 tried4 : (Sequence → Bool) → ℕ → ℕ → ℕ → ℕ → Bool
@@ -182,7 +182,7 @@ pub after_stands : (byte : ℕ) (q : Sequence) → Valid q → Stands (sequence_
 unfolding sequence_after pending_after_as
 after_stands byte q e =
     rw (pending_same q e)
-    (both-picked Stands _ _ _ _ _ (λ d. used_stands byte q e) (λ d. asked_stands byte q e))
+    (both_picked Stands _ _ _ _ _ (λ d. used_stands byte q e) (λ d. asked_stands byte q e))
 
 -- ---- from a number back to its sequence
 

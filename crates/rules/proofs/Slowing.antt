@@ -23,7 +23,7 @@ use Rattle.rules.specs.Slowing.{clock_at_speed, LargerOf, SpeedExact}
 use Rattle.rules.specs.declared.Slot.{Slot}
 use Rattle.rules.specs.declared.Clocks.{Clocks}
 use Rattle.rules.specs.declared.Core.{Core}
-use Rattle.rules.proofs.Choice.{pick_true, pick-false, pick-both, both-picked, any_first, any_more, either, not_of_false}
+use Rattle.rules.proofs.Choice.{pick_true, pick_false, pick_both, both_picked, any_first, any_more, either, not_of_false}
 use Rattle.rules.proofs.Validity.{valid_bus}
 use Rattle.rules.proofs.Slots.{slot_runs, larger_left, larger_right, larger_cases}
 use Rattle.rules.proofs.Clock.{new_length}
@@ -56,7 +56,7 @@ clock_speed c = (clock_timed (λ a b control pending. control.speed ≡ c.contro
 grant_speed : {M : Type 0} (σ : Store M) (s : System M) (n : ℕ) → (grant σ s n).system.world.core.control.speed ≡ s.world.core.control.speed
 unfolding grant_over
 grant_speed σ s n =
-    pick-both (λ (a : Answer _). a.system.world.core.control.speed ≡ s.world.core.control.speed) _ _ _
+    pick_both (λ (a : Answer _). a.system.world.core.control.speed ≡ s.world.core.control.speed) _ _ _
     (clocked_keeps σ (λ (t : System _). t.world.core.control.speed ≡ s.world.core.control.speed)
     (λ t e. clock_speed t.world.core ∙ e) n s refl)
     refl
@@ -67,13 +67,13 @@ accepts : (c : Core) (k : Clocks) (code : ℕ) → valid c (total k) ≡ true �
 unfolding speed_reply_over unless_refused speed_refusal_if first_hit
 accepts c k code v h =
     pick_true _ _ _
-    (eq-eqb _ _ (pick-false _ _ _ (ap not v) ∙ pick-false _ _ _ (ap not (le-leb code 3 h))))
+    (eq-eqb _ _ (pick_false _ _ _ (ap not v) ∙ pick_false _ _ _ (ap not (le-leb code 3 h))))
 
 refuses : (c : Core) (k : Clocks) (code : ℕ) → valid c (total k) ≡ true → 3 < code → speed_reply c k code ≡ record { answered = refused 7; core = c; clocks = k }
 unfolding speed_reply_over unless_refused speed_refusal_if first_hit
 refuses c k code v h =
-    let e : speed_refusal c (total k) code ≡ 7 = pick-false _ _ _ (ap not v) ∙ pick_true _ _ _ (ap not (lt-leb code 3 h)) in
-    pick-false _ _ _ (ne_eqb (speed_refusal c (total k) code) 0 (λ z. omega (arith, e, z))) ∙ (λ i. record { answered = refused (e i); core = c; clocks = k })
+    let e : speed_refusal c (total k) code ≡ 7 = pick_false _ _ _ (ap not v) ∙ pick_true _ _ _ (ap not (lt-leb code 3 h)) in
+    pick_false _ _ _ (ne_eqb (speed_refusal c (total k) code) 0 (λ z. omega (arith, e, z))) ∙ (λ i. record { answered = refused (e i); core = c; clocks = k })
 
 -- ---- its note
 
@@ -81,12 +81,12 @@ module _ {M C : Type 0} (σ : Store M) (ω : Outside M C) (p : Past M) (code : �
   notes : valid p.world.core p.sum ≡ true → code ≤ 3 → note_entry σ ω (speed_call code) p ≡ record { number = 0; past = with_core (at_speed code p.world.core) p }
   unfolding noted_unless speed_refusal_if first_hit
   notes v h =
-      let e : speed_refusal p.world.core p.sum code ≡ 0 = pick-false _ _ _ (ap not v) ∙ pick-false _ _ _ (ap not (le-leb code 3 h)) in
+      let e : speed_refusal p.world.core p.sum code ≡ 0 = pick_false _ _ _ (ap not v) ∙ pick_false _ _ _ (ap not (le-leb code 3 h)) in
       (λ i. record { number = e i; past = pick_true _ (with_core (at_speed code p.world.core) p) p (eq-eqb _ 0 e) i })
 
   leaves : ((note_entry σ ω (speed_call code) p).number ≡ 0 → ⊥) → (note_entry σ ω (speed_call code) p).past ≡ p
   unfolding noted_unless
-  leaves n = pick-false _ _ _ (ne_eqb _ _ n)
+  leaves n = pick_false _ _ _ (ne_eqb _ _ n)
 
 -- ---- a slot that runs
 
@@ -94,7 +94,7 @@ module _ {M C : Type 0} (σ : Store M) (ω : Outside M C) (p : Past M) (code : �
 running : (c : Core) (code : ℕ) → (c.slot.elapsed ≡ 0 → ⊥) → clock_of (at_speed code c) ≡ clock_at_speed code (clock_of c)
 unfolding clock_of
 running c code h =
-    both-picked (λ (x y : Clock). y ≡ clock_at_speed code x) c.enabled _ _ _ _
+    both_picked (λ (x y : Clock). y ≡ clock_at_speed code x) c.enabled _ _ _ _
     (λ on.
     ap (λ (s : Slot). slot_clock (c.slot.elapsed + 1) (with_slot s (at_speed code c))) (slot_runs (at_speed code c) h)
     ∙ slot_speed code (c.slot.elapsed + 1) c
@@ -120,7 +120,7 @@ larger_of prescaler bus elapsed burst =
 prescaled_length_lem : (c : Core) → (c.control.prescaler ≡ 0 → ⊥) → LargerOf c.control.prescaler (new_slot c)
 unfolding slot_length
 prescaled_length_lem c h =
-    rw (pick-false _ (new_slot c).bus (larger (new_slot c).bus (32 * c.control.prescaler)) (ne_eqb c.control.prescaler 0 h))
+    rw (pick_false _ (new_slot c).bus (larger (new_slot c).bus (32 * c.control.prescaler)) (ne_eqb c.control.prescaler 0 h))
     (larger_of c.control.prescaler (new_slot c).bus 0 c.control.burst)
 
 -- ---- its bus time
@@ -136,7 +136,7 @@ four_factors = (refl, refl, refl, refl)
 
 factor_above : (code : ℕ) → 3 < code → factor code ≡ 1
 unfolding factor
-factor_above code h = pick-false _ _ _ (lt-leb code 3 h)
+factor_above code h = pick_false _ _ _ (lt-leb code 3 h)
 
 new_bus_time : (c : Core) → (new_slot c).bus ≡ factor c.control.speed * (c.a.cycle + c.b.cycle)
 unfolding bus_time_of

@@ -15,7 +15,7 @@ use Rattle.rules.specs.Spans.{kind_code, kind_of, ticks, span, IsSpan, IsLongest
 use Rattle.rules.specs.declared.Clocks.{Clocks}
 use Rattle.rules.specs.declared.Core.{Core}
 use Rattle.rules.specs.declared.Span.{Span}
-use Rattle.rules.proofs.Choice.{clash, pick-false, any-cases, any_none}
+use Rattle.rules.proofs.Choice.{clash, pick_false, any_cases, any_none}
 use Rattle.rules.proofs.World.{clocked_zero, clocked_suc}
 
 -- a kind's number is the kind's
@@ -75,7 +75,7 @@ module _ {M : Type 0} (σ : Store M) (s : System M) where
     unfolding buffers_after
     still_buffers zero h = ap (λ (t : System M). t.world.buffers) (clocked_zero σ s)
     still_buffers (suc i) h =
-        clocked_buffers i ∙ pick-false _ _ _ (p.quiet i (omega arith)) ∙ still_buffers i (omega arith)
+        clocked_buffers i ∙ pick_false _ _ _ (p.quiet i (omega arith)) ∙ still_buffers i (omega arith)
 
     -- the kind of each clock is the span's
     span_kind : (i : ℕ) → i < x.clocks → (clock_of (ticks i s.world.core)).kind ≡ kind_of x.kind
@@ -93,7 +93,7 @@ module _ {M : Type 0} (σ : Store M) (s : System M) where
     last_buffers : (i : ℕ) → i ≡ x.clocks → (clocked σ i s).world.buffers ≡ buffers_after σ x.moves x.from x.to s.world.buffers
     unfolding buffers_after
     last_buffers zero e =
-        ap (λ (t : System M). t.world.buffers) (clocked_zero σ s) ∙ sym (pick-false _ _ _ (p.none (sym e)))
+        ap (λ (t : System M). t.world.buffers) (clocked_zero σ s) ∙ sym (pick_false _ _ _ (p.none (sym e)))
     last_buffers (suc i) e =
         clocked_buffers i
         ∙ ap (after (ticks i s.world.core)) (still_buffers i (omega arith))
@@ -131,9 +131,9 @@ span_none c budget kind e =
 longest_least : {c : Core} {budget : ℕ} {x y : Span} → IsLongestSpan c budget x → IsLongestSpan c budget y → (n : ℕ) → n ≡ x.clocks → n < y.clocks → ⊥
 longest_least p q zero e h = omega (arith, p.0.some (omega (arith, q.0.within)))
 longest_least p q (suc i) e h =
-    any-cases _ _ (p.1.reached i (omega arith) (omega (arith, q.0.within)))
+    any_cases _ _ (p.1.reached i (omega arith) (omega (arith, q.0.within)))
     (λ d. clash (sym (q.0.quiet i (omega arith)) ∙ p.0.last i (omega arith) ∙ d))
-    (λ d. any-cases _ _ d (λ f. clash (sym (q.1.inside i (omega arith)) ∙ f)) any_none)
+    (λ d. any_cases _ _ d (λ f. clash (sym (q.1.inside i (omega arith)) ∙ f)) any_none)
 
 -- spans of as many clocks, n of them, agree in all but the number of the clocks
 settle :

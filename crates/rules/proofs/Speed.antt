@@ -8,7 +8,7 @@ use borrow.Author.Tests.{lt-leb}
 use Rattle.rules.specs.Choice.{pick}
 use Rattle.rules.specs.Speed.{factor}
 use Rattle.rules.specs.Slots.{bus_time_of}
-use Rattle.rules.proofs.Choice.{pick-false}
+use Rattle.rules.proofs.Choice.{pick_false}
 
 -- what holds of 8, 4, 2 and 1 holds of every factor
 pub factor_cases : (P : ℕ → Type 0) (code : ℕ) → P 8 → P 4 → P 2 → P 1 → P (factor code)
@@ -18,7 +18,7 @@ factor_cases P (suc zero) p q r s = q
 factor_cases P (suc (suc zero)) p q r s = r
 factor_cases P (suc (suc (suc zero))) p q r s = s
 factor_cases P (suc (suc (suc (suc n)))) p q r s =
-    subst P (sym (pick-false {X = ℕ} _ _ _ (lt-leb (suc (suc (suc (suc n)))) 3 (omega arith)))) s
+    subst P (sym (pick_false {X = ℕ} _ _ _ (lt-leb (suc (suc (suc (suc n)))) 3 (omega arith)))) s
 
 pub factor_most : (code : ℕ) → factor code ≤ 8
 factor_most code = factor_cases (λ f. f ≤ 8) code (omega arith) (omega arith) (omega arith) (omega arith)

@@ -13,7 +13,7 @@ use Rattle.rules.specs.World.{World, System, buffers_after, step, clocked}
 use Rattle.rules.specs.Calls.{Answer, grant_number, grant, grant_over}
 use Rattle.rules.specs.Splitting.{sum_of, AcceptedInTurn, Splits}
 use Rattle.rules.specs.declared.Place.{Place}
-use Rattle.rules.proofs.Choice.{pick-cases, pick-both}
+use Rattle.rules.proofs.Choice.{pick_cases, pick_both}
 use Rattle.rules.proofs.World.{clocked_zero, clocked_add, clocked_total, clocked_keeps, clocked_kept}
 use Rattle.rules.proofs.Calls.{Granted, granted, grantable, grant_accepts, valid_device, device_valid}
 
@@ -26,14 +26,14 @@ module _ {M : Type 0} (σ : Store M) where
   put_same : (p : Place) (byte : ℕ) (b : Buffers M) → SameBuffers b (put σ p byte b)
   unfolding put
   put_same p byte b =
-      pick-both (SameBuffers b) _ _ _
+      pick_both (SameBuffers b) _ _ _
       (record { memory = refl; latches = length-set b.latches _ _ })
       (record { memory = σ.refusal_kept b.memory _ _; latches = refl })
 
   step_same : (w : World M) → SameBuffers w.buffers (step σ w).buffers
   unfolding buffers_after
   step_same w =
-      pick-both (SameBuffers w.buffers) _ _ _ (put_same _ _ w.buffers) (record { memory = refl; latches = refl })
+      pick_both (SameBuffers w.buffers) _ _ _ (put_same _ _ w.buffers) (record { memory = refl; latches = refl })
 
   clocked_same : (n : ℕ) (s : System M) → SameBuffers s.world.buffers (clocked σ n s).world.buffers
   clocked_same n s =
@@ -44,7 +44,7 @@ module _ {M : Type 0} (σ : Store M) where
   pub grant_same : (s : System M) (n : ℕ) → SameBuffers s.world.buffers (grant σ s n).system.world.buffers
   unfolding grant_over
   grant_same s n =
-      pick-both (λ (a : Answer M). SameBuffers s.world.buffers a.system.world.buffers) _ _ _ (clocked_same n s) (record { memory = refl; latches = refl })
+      pick_both (λ (a : Answer M). SameBuffers s.world.buffers a.system.world.buffers) _ _ _ (clocked_same n s) (record { memory = refl; latches = refl })
 
   -- a grant of fewer clocks is accepted too, and so is the rest after it
   granted_fewer : (s : System M) (k n : ℕ) → Granted σ s.world.core (total s.clocks) s.world.buffers (k + n) → Granted σ s.world.core (total s.clocks) s.world.buffers k
@@ -79,7 +79,7 @@ module _ {M : Type 0} (σ : Store M) where
   pub accepted_number : (s : System M) (n : ℕ) → (grant σ s n).answered.number ≡ 0 → grant_number σ s n ≡ 0
   unfolding grant_over
   accepted_number s n =
-      pick-cases (λ (a : Answer M). a.answered.number ≡ 0 → grant_number σ s n ≡ 0) _ _ _ (λ e h. eqb-true _ _ e) (λ e h. h)
+      pick_cases (λ (a : Answer M). a.answered.number ≡ 0 → grant_number σ s n ≡ 0) _ _ _ (λ e h. eqb-true _ _ e) (λ e h. h)
 
   pub grant_splits : Splits σ
   grant_splits s r n e ns q =

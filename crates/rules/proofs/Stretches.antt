@@ -23,7 +23,7 @@ use Rattle.rules.specs.declared.Slot.{Slot}
 use Rattle.rules.specs.declared.Clocks.{Clocks}
 use Rattle.rules.specs.declared.Core.{Core}
 use Rattle.rules.specs.declared.Span.{Span}
-use Rattle.rules.proofs.Choice.{pick_true, pick-false, pick-both, pick-cases, pick-ap, either, all_true, true_all, any_first, any_more, any-cases, any_none, every_stop, every_stop_later, clash}
+use Rattle.rules.proofs.Choice.{pick_true, pick_false, pick_both, pick_cases, pick_ap, either, all_true, true_all, any_first, any_more, any_cases, any_none, every_stop, every_stop_later, clash}
 use Rattle.rules.proofs.Slots.{slot_begins, slot_runs, slot_cases}
 use Rattle.rules.proofs.Spans.{kind_of_code, ticks_zero, ticks_suc, span_clocked}
 
@@ -34,29 +34,29 @@ slot_clock_elapsed : (n m : ℕ) (c : Core) → slot_clock n (with_elapsed m c) 
 unfolding slot_clock moved_at kind_at clock_end slot_end
 slot_clock_elapsed n m c =
     ap (λ (d : Core). clock (kind_at n c) (moves_at n c) (clock_end n d).zeroed (clock_end n d).core)
-    (sym (pick-ap (with_elapsed m) (moves_at n c) (moved c) c))
+    (sym (pick_ap (with_elapsed m) (moves_at n c) (moved c) c))
 
 -- a clock that neither moves a byte nor ends the slot
 plain_next : (n : ℕ) (c : Core) → (n ≡ c.slot.bus → ⊥) → n < c.slot.length → (slot_clock n c).next ≡ with_elapsed n c
 unfolding slot_clock moved_at clock_end
 plain_next n c b h =
-    ap (λ (d : Core). (clock_end n d).core) (pick-false _ _ _ (ne_eqb n c.slot.bus b))
+    ap (λ (d : Core). (clock_end n d).core) (pick_false _ _ _ (ne_eqb n c.slot.bus b))
     ∙ ap (λ (x : Ending). x.core) (pick_true _ _ _ (lt-ltb n c.slot.length h))
 
 -- a slot's end leaves no clock elapsed
 end_rests : (c : Core) → (slot_end c).core.slot.elapsed ≡ 0
 unfolding slot_end
 end_rests c =
-    pick-both (λ (x : Ending). x.core.slot.elapsed ≡ 0) _ _ _
-    (pick-both (λ (x : Ending). x.core.slot.elapsed ≡ 0) _ _ _ refl refl) refl
+    pick_both (λ (x : Ending). x.core.slot.elapsed ≡ 0) _ _ _
+    (pick_both (λ (x : Ending). x.core.slot.elapsed ≡ 0) _ _ _ refl refl) refl
 
 -- a clock at or past the slot's length ends it
 last_rests : (n : ℕ) (c : Core) → c.slot.length ≤ n → (slot_clock n c).next.slot.elapsed ≡ 0
 unfolding slot_clock moved_at clock_end
 last_rests n c h =
-    pick-both (λ (d : Core). (clock_end n d).core.slot.elapsed ≡ 0) (moves_at n c) (moved c) c
-    (ap (λ (x : Ending). x.core.slot.elapsed) (pick-false _ _ _ (le-ltb n c.slot.length h)) ∙ end_rests (moved c))
-    (ap (λ (x : Ending). x.core.slot.elapsed) (pick-false _ _ _ (le-ltb n c.slot.length h)) ∙ end_rests c)
+    pick_both (λ (d : Core). (clock_end n d).core.slot.elapsed ≡ 0) (moves_at n c) (moved c) c
+    (ap (λ (x : Ending). x.core.slot.elapsed) (pick_false _ _ _ (le-ltb n c.slot.length h)) ∙ end_rests (moved c))
+    (ap (λ (x : Ending). x.core.slot.elapsed) (pick_false _ _ _ (le-ltb n c.slot.length h)) ∙ end_rests c)
 
 -- an enabled core's clock is its slot's next one
 pub clock_begun : (c : Core) → c.enabled ≡ true → clock_of c ≡ slot_clock (c.slot.elapsed + 1) (begun c)
@@ -184,8 +184,8 @@ module _ {c d : Core} (r : Runs c d) {n : ℕ} (w : Within c.slot.elapsed n d.sl
         inside = λ i l. every_stop_later _ _ (every_stop _ _ (ap (λ (x : Core). eqb x.slot.elapsed 0) (sym (ticks_suc i c) ∙ run_next i l (run_clock i (omega arith))) ∙ ne_eqb (c.slot.elapsed + i + 1) 0 (λ e. omega arith)));
         reached =
             λ i e l.
-            any-cases _ _ (h l) (any_first _ _)
-            (λ x. any-cases _ _ x
+            any_cases _ _ (h l) (any_first _ _)
+            (λ x. any_cases _ _ x
             (λ y. any_more _ _ (any_first _ _ (ends i e (leb-true d.slot.length (c.slot.elapsed + n) y))))
             any_none);
         idle = λ off. clash (sym off ∙ r.on);
@@ -227,7 +227,7 @@ record Left (s : Slot) (k : ℕ) : Type 0 where
 slot_rest_facts : (s : Slot) → Left s (slot_rest s)
 unfolding slot_rest
 slot_rest_facts s =
-    pick-cases (Left s) (ltb s.elapsed s.length) _ _
+    pick_cases (Left s) (ltb s.elapsed s.length) _ _
     (λ e. let l = ltb-true s.elapsed s.length e in record { some = omega arith; end = omega arith; goes_on = λ m x y. omega arith; fits = λ x y. omega arith })
     (λ e. let l = ltb-false s.elapsed s.length e in record { some = omega arith; end = omega arith; goes_on = λ m x y. absurd (omega arith); fits = λ x y. omega arith })
 
@@ -249,10 +249,10 @@ rest_to_end s k l p =
 rest_with : (s : Slot) (k : ℕ) → Left s k → Rest s (pick (ltb s.elapsed s.bus) (least (s.bus - s.elapsed) k) k)
 unfolding least
 rest_with s k l =
-    pick-cases (Rest s) (ltb s.elapsed s.bus) _ _
+    pick_cases (Rest s) (ltb s.elapsed s.bus) _ _
     (λ f.
     let b = ltb-true s.elapsed s.bus f in
-    pick-cases (Rest s) (ltb (s.bus - s.elapsed) k) _ _
+    pick_cases (Rest s) (ltb (s.bus - s.elapsed) k) _ _
     (λ g. let m = ltb-true (s.bus - s.elapsed) k g in rest_to_move s b (omega (arith, l.goes_on (s.bus - s.elapsed) m (omega arith))))
     (λ g. let m = ltb-false (s.bus - s.elapsed) k g in rest_to_end s k l (λ n x. to_move (omega arith))))
     (λ f. let b = ltb-false s.elapsed s.bus f in rest_to_end s k l (λ n x. behind b))
@@ -271,7 +271,7 @@ pub record Least (x y m : ℕ) : Type 0 where
 pub least_facts : (x y : ℕ) → Least x y (least x y)
 unfolding least
 least_facts x y =
-    pick-cases (Least x y) (ltb x y) x y
+    pick_cases (Least x y) (ltb x y) x y
     (λ e. let l = ltb-true x y e in record { first = omega arith; second = omega arith; one = λ g. absurd (omega arith) })
     (λ e. let l = ltb-false x y e in record { first = l; second = omega arith; one = λ g. refl })
 
@@ -309,7 +309,7 @@ module _ (c : Core) (on : c.enabled ≡ true) where
 
 clock_idle : (c : Core) → c.enabled ≡ false → clock_of c ≡ clock cpu_clock false none c
 unfolding clock_of
-clock_idle c off = pick-false _ _ _ off
+clock_idle c off = pick_false _ _ _ off
 
 idle_core : (c : Core) → c.enabled ≡ false → (i : ℕ) → ticks i c ≡ c
 idle_core c off zero = ticks_zero c
@@ -345,7 +345,7 @@ idle_longest c budget off =
 
 still : {M : Type 0} (σ : Store M) (moves : Bool) (from to : Place) (b : Buffers M) → moves ≡ false → buffers_after σ moves from to b ≡ b
 unfolding buffers_after
-still σ moves from to b e = pick-false _ _ _ e
+still σ moves from to b e = pick_false _ _ _ e
 
 -- clocks of a span on which no byte moves
 still_clocked : {M : Type 0} (σ : Store M) {n : ℕ} (kind : Kind) {moves : Bool} {c next : Core} (b : Buffers M) (k : Clocks) → IsSpan c n (span kind n moves c next) → moves ≡ false → clocked σ n (system c b k) ≡ system next b (counted_by kind n k)

@@ -28,7 +28,7 @@ use Rattle.rules.specs.declared.Control.{Control}
 use Rattle.rules.specs.declared.Slot.{Slot}
 use Rattle.rules.specs.declared.Clocks.{Clocks}
 use Rattle.rules.specs.declared.Core.{Core}
-use Rattle.rules.proofs.Choice.{clash, pick_true, pick-false, pick-cases, pick-both, both-picked, either, all_true, true_all, every_stop, every_stop_later, every_at, any_first, any_more, any-cases, any_none}
+use Rattle.rules.proofs.Choice.{clash, pick_true, pick_false, pick_cases, pick_both, both_picked, either, all_true, true_all, every_stop, every_stop_later, every_at, any_first, any_more, any_cases, any_none}
 use Rattle.rules.proofs.Slots.{slot_cases}
 use Rattle.rules.proofs.Speed.{bus_full}
 use Rattle.rules.proofs.Validity.{core_parts, port_cycle, prescaled_facts}
@@ -49,8 +49,8 @@ rest_short n = absurd (n refl)
 allowed_short : (s : Slot) → allowed_at28 s ≡ true → Short s
 unfolding allowed_at28 running_slot_at28
 allowed_short s e n =
-    any-cases _ _ e (λ z. absurd (n (eqb-true _ _ z)))
-    (λ r. any-cases _ _ r (λ d. leb-true _ _ (all_true _ d).1.0) any_none)
+    any_cases _ _ e (λ z. absurd (n (eqb-true _ _ z)))
+    (λ r. any_cases _ _ r (λ d. leb-true _ _ (all_true _ d).1.0) any_none)
 
 -- its length is valid by both tests or by neither
 length_alike : (s : Slot) → s.bus ≤ 8 → valid_length_at28 s ≡ valid_length s
@@ -73,7 +73,7 @@ running_alike s h =
 slot_alike : (t : Bool) (s : Slot) → Short s → valid_slot_at28 t s ≡ valid_slot t s
 unfolding valid_slot_at28 valid_slot
 slot_alike t s h =
-    both-picked ◌≡◌ (eqb s.elapsed 0) _ _ _ _ (λ e. refl)
+    both_picked ◌≡◌ (eqb s.elapsed 0) _ _ _ _ (λ e. refl)
     (λ e. ap (λ (r : Bool). every (t ∷ r ∷ [])) (running_alike s (h (eqb-false _ _ e))))
 
 -- ---- a core at code 3
@@ -90,7 +90,7 @@ not_allowed c a =
     (either (eqb c.slot.elapsed 0)
     (λ z. clash (sym a ∙ any_first _ _ z))
     (λ z.
-    pick-false _ _ _ z
+    pick_false _ _ _ z
     ∙ every_stop_later c.enabled _
     (every_stop _ []
     (either (running_slot_at28 c.slot) (λ r. clash (sym a ∙ any_more _ _ (any_first _ _ r))) (λ r. r)))))
@@ -133,7 +133,7 @@ bus_alike c e = ap (λ (n : ℕ). bus_time_of n c.a.cycle c.b.cycle) e ∙ bus_f
 slot_length_alike : (prescaler bus : ℕ) → bus ≤ 8 → slot_length_at28 prescaler bus ≡ slot_length prescaler bus
 unfolding slot_length_at28 slot_length larger
 slot_length_alike prescaler bus h =
-    both-picked ◌≡◌ (eqb prescaler 0) _ _ _ _ (λ e. refl)
+    both_picked ◌≡◌ (eqb prescaler 0) _ _ _ _ (λ e. refl)
     (λ e. let n = eqb-false prescaler 0 e in sym (pick_true _ _ _ (lt-ltb bus (32 * prescaler) (omega (arith, n)))))
 
 new_alike : (c : Core) → Timed3 c → new_slot_at28 c ≡ new_slot c
@@ -145,12 +145,12 @@ new_alike c p =
 
 slot_of_alike : (c : Core) → Timed3 c → slot_of_at28 c ≡ slot_of c
 unfolding slot_of_at28 slot_of
-slot_of_alike c k = both-picked ◌≡◌ (eqb c.slot.elapsed 0) _ _ _ _ (λ e. new_alike c k) (λ e. refl)
+slot_of_alike c k = both_picked ◌≡◌ (eqb c.slot.elapsed 0) _ _ _ _ (λ e. new_alike c k) (λ e. refl)
 
 clock_alike : (c : Core) → Timed3 c → clock_at28 c ≡ clock_of c
 unfolding clock_at28 clock_of
 clock_alike c k =
-    both-picked ◌≡◌ c.enabled _ _ _ _
+    both_picked ◌≡◌ c.enabled _ _ _ _
     (λ e. ap (λ (s : Slot). slot_clock (c.slot.elapsed + 1) (with_slot s c)) (slot_of_alike c k))
     (λ e. refl)
 
@@ -205,7 +205,7 @@ read_at3 c k port f =
 grant_at3 : {M : Type 0} (σ : Store M) (s : System M) (n : ℕ) → At3 s.world.core → At3 (grant σ s n).system.world.core
 unfolding grant_over
 grant_at3 σ s n f =
-    pick-cases (λ (a : Answer _). At3 a.system.world.core) _ _ _
+    pick_cases (λ (a : Answer _). At3 a.system.world.core) _ _ _
     (λ e.
     let g = granted σ _ _ _ n (eqb-true _ _ e) in
     let v = valid_core_lem _ _ g.state in
@@ -217,7 +217,7 @@ grant_at3 σ s n f =
 passed_at3 : {M : Type 0} (σ : Store M) (b : Buffers M) (n : ℕ) (p : Past M) → At3 p.world.core → At3 (grant_noted_by valid_core clock_of σ b n p).past.world.core
 unfolding noted_unless
 passed_at3 σ b n p f =
-    pick-cases (λ (q : Past _). At3 q.world.core) _ _ _
+    pick_cases (λ (q : Past _). At3 q.world.core) _ _ _
     (λ e.
     let g = granted σ p.world.core p.sum b n (eqb-true _ _ e) in
     let v = valid_core_lem _ _ g.state in
@@ -241,7 +241,7 @@ module _ {M C : Type 0} (σ : Store M) (ω : Outside M C) where
   speed_stays : (code : ℕ) (s : System M) → s.world.core.control.speed ≡ 3 → ((enter σ ω (speed_call code) s).answered.number ≡ 0 → code ≡ 3) → (enter σ ω (speed_call code) s).system ≡ s
   unfolding speed_reply_over unless_refused
   speed_stays code s e =
-      pick-cases
+      pick_cases
       (λ (r : Reply). (r.answered.number ≡ 0 → code ≡ 3) → (beside s.world.buffers r).system ≡ s)
       _ _ _
       (λ z h. ap (λ (c : Core). system c s.world.buffers s.clocks) (same_speed s.world.core code e (h refl)))
@@ -250,21 +250,21 @@ module _ {M C : Type 0} (σ : Store M) (ω : Outside M C) where
   noted_stays : (code : ℕ) (p : Past M) → p.world.core.control.speed ≡ 3 → ((note_entry σ ω (speed_call code) p).number ≡ 0 → code ≡ 3) → (note_entry σ ω (speed_call code) p).past ≡ p
   unfolding noted_unless
   noted_stays code p e h =
-      pick-cases (λ (q : Past M). q ≡ p) _ _ _
+      pick_cases (λ (q : Past M). q ≡ p) _ _ _
       (λ z. ap (λ (c : Core). with_core c p) (same_speed p.world.core code e (h (eqb-true _ _ z))))
       (λ z. refl)
 
   note_at3 : (e : Entry σ C) (p : Past M) → is_speed_call e ≡ false → At3 p.world.core → At3 (note_entry σ ω e p).past.world.core
   unfolding noted_unless write_passed
   note_at3 (port_write port byte) p n f =
-      pick-cases (λ (q : Past M). At3 q.world.core) _ _ _
+      pick_cases (λ (q : Past M). At3 q.world.core) _ _ _
       (λ e.
       let a = access_framed p.world.core p.sum port f (eqb-true _ _ e) in
       let w = short_at3 _ (written_framed 3 Short rest_short port byte p.world.core a) in
-      pick-both (λ (q : Past M). At3 q.world.core) _ _ _ w w)
+      pick_both (λ (q : Past M). At3 q.world.core) _ _ _ w w)
       (λ e. f)
   note_at3 (port_read port) p n f =
-      pick-cases (λ (q : Past M). At3 q.world.core) _ _ _
+      pick_cases (λ (q : Past M). At3 q.world.core) _ _ _
       (λ e.
       let a = access_framed p.world.core p.sum port f (eqb-true _ _ e) in
       short_at3 _ (read_framed 3 Short rest_short p.world.core a))

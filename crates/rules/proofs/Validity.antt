@@ -17,7 +17,7 @@ use Rattle.rules.specs.declared.Readback.{Readback}
 use Rattle.rules.specs.declared.Slot.{Slot}
 use Rattle.rules.specs.declared.Core.{Core}
 use Rattle.rules.proofs.Speed.{BusTime, bus_range}
-use Rattle.rules.proofs.Choice.{pick_true, pick-false, not_of_false, either, all_true, true_all, means_so, so_means, any_first, any_more, any-cases, any_none}
+use Rattle.rules.proofs.Choice.{pick_true, pick_false, not_of_false, either, all_true, true_all, means_so, so_means, any_first, any_more, any_cases, any_none}
 
 -- ---- the core, part by part
 
@@ -75,9 +75,9 @@ facts_prescaled n l m d = true_all _ (le-leb _ _ l, (le-leb _ _ m, (eq-eqb _ _ d
 length_facts : (s : Slot) → valid_length s ≡ true → SlotLength s
 unfolding valid_length
 length_facts s e =
-    any-cases _ _ e (λ d. bus_time (eqb-true _ _ d))
+    any_cases _ _ e (λ d. bus_time (eqb-true _ _ d))
     (λ r.
-    any-cases _ _ r
+    any_cases _ _ r
     (λ d.
     let h = all_true _ d in
     let p = prescaled_facts _ h.0 in
@@ -113,7 +113,7 @@ unfolding valid_slot
 slot_facts t s e =
     either (eqb s.elapsed 0)
     (λ z. resting (resting_facts s (eqb-true _ _ z) (sym (pick_true _ _ _ z) ∙ e)))
-    (λ n. let h = all_true _ (sym (pick-false _ _ _ n) ∙ e) in running h.0 (running_facts s (eqb-false _ _ n) h.1.0))
+    (λ n. let h = all_true _ (sym (pick_false _ _ _ n) ∙ e) in running h.0 (running_facts s (eqb-false _ _ n) h.1.0))
 
 pub facts_slot : (t : Bool) (s : Slot) → ValidSlot t s → valid_slot t s ≡ true
 unfolding valid_slot resting_slot running_slot
@@ -121,7 +121,7 @@ facts_slot t s (resting r) =
     pick_true _ _ _ (eq-eqb _ _ r.elapsed)
     ∙ true_all _ (eq-eqb _ _ r.bus, (eq-eqb _ _ r.length, (not_of_false _ r.burst, tt)))
 facts_slot t s (running on r) =
-    pick-false _ _ _ (ne_eqb s.elapsed 0 (λ z. omega (arith, r.elapsed)))
+    pick_false _ _ _ (ne_eqb s.elapsed 0 (λ z. omega (arith, r.elapsed)))
     ∙ true_all _ (on, (true_all _ (le-leb _ _ r.least, (le-leb _ _ r.most, (facts_length s r.length, (lt-ltb _ _ r.below, tt)))), tt))
 
 -- ---- progress

@@ -28,7 +28,7 @@ use Rattle.rules.specs.Warned.{warned_below, unwarned, warned_bytes, WarningExac
 use Rattle.rules.specs.Opened.{opened}
 use Rattle.rules.specs.declared.Clocks.{Clocks}
 use Rattle.rules.specs.declared.Core.{Core}
-use Rattle.rules.proofs.Choice.{pick_true, pick-false, pick-both, pick-ap, both-picked, either, table, below, ◌⨾◌, row_passed, row_taken, shows, every_at, all_true, true_all, any_first, any_more, any-cases, any_none}
+use Rattle.rules.proofs.Choice.{pick_true, pick_false, pick_both, pick_ap, both_picked, either, table, below, ◌⨾◌, row_passed, row_taken, shows, every_at, all_true, true_all, any_first, any_more, any_cases, any_none}
 use Rattle.rules.proofs.Selection.{idle, wr0_exact, wr4_exact}
 use Rattle.rules.proofs.Calls.{grant_plain}
 use Rattle.rules.proofs.Refusing.{write_number}
@@ -39,7 +39,7 @@ use Rattle.rules.proofs.Accounts.{Agree, entry_step, start_agrees}
 -- one of two numbers, as a test and as a fact
 one_of : (n x y : ℕ) → any (eqb n x ∷ eqb n y ∷ []) ≡ true → (n ≡ x) ⊎ (n ≡ y)
 one_of n x y e =
-    any-cases _ _ e (λ d. inl (eqb-true _ _ d)) (λ r. any-cases _ _ r (λ d. inr (eqb-true _ _ d)) any_none)
+    any_cases _ _ e (λ d. inl (eqb-true _ _ d)) (λ r. any_cases _ _ r (λ d. inr (eqb-true _ _ d)) any_none)
 
 of_one : (n x y : ℕ) → (n ≡ x) ⊎ (n ≡ y) → any (eqb n x ∷ eqb n y ∷ []) ≡ true
 of_one n x y (inl e) = any_first _ _ (eq-eqb _ _ e)
@@ -47,7 +47,7 @@ of_one n x y (inr e) = any_more _ _ (any_first _ _ (eq-eqb _ _ e))
 
 neither : (n x y : ℕ) → (n ≡ x → ⊥) → (n ≡ y → ⊥) → any (eqb n x ∷ eqb n y ∷ []) ≡ false
 unfolding any
-neither n x y f g = pick-false _ _ _ (ne_eqb _ _ f) ∙ pick-false _ _ _ (ne_eqb _ _ g)
+neither n x y f g = pick_false _ _ _ (ne_eqb _ _ f) ∙ pick_false _ _ _ (ne_eqb _ _ g)
 
 -- ---- the three tests as facts, by what is next
 
@@ -186,13 +186,13 @@ write_warning c sum port byte = pick (eqb (access_refusal c sum port) 0) (warnin
 
 write_warned : (c : Core) (k : Clocks) (port byte : ℕ) → (write_reply c k port byte).answered.warning ≡ write_warning c (total k) port byte
 unfolding write_reply_over unless_refused
-write_warned c k port byte = pick-ap (λ (r : Reply). r.answered.warning) _ _ _
+write_warned c k port byte = pick_ap (λ (r : Reply). r.answered.warning) _ _ _
 
 write_warning_lem : (c : Core) (k : Clocks) (port byte : ℕ) → access_refusal c (total k) port ≡ 0 → (write_reply c k port byte).answered.warning ≡ warning c.pending byte
 write_warning_lem c k port byte e = write_warned c k port byte ∙ pick_true _ _ _ (eq-eqb _ _ e)
 
 write_none : (c : Core) (k : Clocks) (port byte : ℕ) → (access_refusal c (total k) port ≡ 0 → ⊥) → (write_reply c k port byte).answered.warning ≡ 0
-write_none c k port byte f = write_warned c k port byte ∙ pick-false _ _ _ (ne_eqb _ _ f)
+write_none c k port byte f = write_warned c k port byte ∙ pick_false _ _ _ (ne_eqb _ _ f)
 
 write_exact :
     (c : Core) (k : Clocks) (port byte w : ℕ) → (w ≡ 0 → ⊥)
@@ -210,7 +210,7 @@ write_exact c k port byte w f =
 -- a call that has none if it is accepted
 unless_none : (number byte : ℕ) (next c : Core) (k : Clocks) → (unless_refused number byte 0 next c k).answered.warning ≡ 0
 unfolding unless_refused
-unless_none number byte next c k = pick-both (λ (r : Reply). r.answered.warning ≡ 0) _ _ _ refl refl
+unless_none number byte next c k = pick_both (λ (r : Reply). r.answered.warning ≡ 0) _ _ _ refl refl
 
 read_none : (c : Core) (k : Clocks) (port : ℕ) → (read_reply c k port).answered.warning ≡ 0
 unfolding read_reply_over
@@ -263,7 +263,7 @@ module _ {D : Type 0} where
   unless_bare : (number byte warning : ℕ) (next d : D) (k : Clocks) → bare_reply (unless_refused number byte warning next d k) ≡ bare_unless_refused number byte next d k
   unfolding unless_refused bare_unless_refused
   unless_bare number byte warning next d k =
-      both-picked (λ (r : ReplyOf D) (b : BareReplyOf D). bare_reply r ≡ b) _ _ _ _ _ (λ e. refl) (λ e. refl)
+      both_picked (λ (r : ReplyOf D) (b : BareReplyOf D). bare_reply r ≡ b) _ _ _ _ _ (λ e. refl) (λ e. refl)
 
   write_bare : (δ : Steering D) (d : D) (k : Clocks) (port byte : ℕ) → bare_reply (write_reply_over δ d k port byte) ≡ bare_write_reply_over δ d k port byte
   unfolding write_reply_over bare_write_reply_over
@@ -281,7 +281,7 @@ module _ {D M : Type 0} (δ : Steering D) (κ : Core → Clock) (σ : Store M) w
   grant_bare : (s : SystemOf D M) (n : ℕ) → bare_answer (grant_over δ κ σ s n) ≡ bare_grant_over δ κ σ s n
   unfolding grant_over bare_grant_over
   grant_bare s n =
-      both-picked (λ (a : AnswerOf D M) (b : BareAnswerOf D M). bare_answer a ≡ b) _ _ _ _ _ (λ e. refl) (λ e. refl)
+      both_picked (λ (a : AnswerOf D M) (b : BareAnswerOf D M). bare_answer a ≡ b) _ _ _ _ _ (λ e. refl) (λ e. refl)
 
 module _ {D M C : Type 0} (δ : Steering D) (κ : Core → Clock) (σ : Store M) (ω : Outside M C) where
   entry_bare : (e : Entry σ C) (s : SystemOf D M) → bare_answer (enter_over δ κ σ ω e s) ≡ bare_enter_over δ κ σ ω e s

@@ -22,7 +22,7 @@ use Rattle.rules.specs.declared.Block.{Block}
 use Rattle.rules.specs.declared.Slot.{Slot}
 use Rattle.rules.specs.declared.Clocks.{Clocks}
 use Rattle.rules.specs.declared.Core.{Core}
-use Rattle.rules.proofs.Choice.{pick_true, pick-false, pick-cases, either, all_true}
+use Rattle.rules.proofs.Choice.{pick_true, pick_false, pick_cases, either, all_true}
 use Rattle.rules.proofs.Blocks.{count_most}
 use Rattle.rules.proofs.Slots.{unmoved_first}
 use Rattle.rules.proofs.Steady.{kept_steady, kept_slot, kept_progress}
@@ -45,14 +45,14 @@ move_end : (c : Core) → c.slot.length ≤ c.slot.bus → (slot_clock c.slot.bu
 unfolding slot_clock moved_at clock_end
 move_end c h =
     ap (λ (d : Core). (clock_end c.slot.bus d).core) (pick_true _ _ _ (eq-eqb c.slot.bus c.slot.bus refl))
-    ∙ ap (λ (x : Ending). x.core) (pick-false _ _ _ (le-ltb c.slot.bus c.slot.length h))
+    ∙ ap (λ (x : Ending). x.core) (pick_false _ _ _ (le-ltb c.slot.bus c.slot.length h))
 
 -- the last clock of a wait
 wait_end : (c : Core) → c.slot.bus < c.slot.length → (slot_clock c.slot.length c).next ≡ (slot_end c).core
 unfolding slot_clock moved_at clock_end
 wait_end c h =
-    ap (λ (d : Core). (clock_end c.slot.length d).core) (pick-false _ _ _ (ne_eqb c.slot.length c.slot.bus (λ e. omega arith)))
-    ∙ ap (λ (x : Ending). x.core) (pick-false _ _ _ (le-ltb c.slot.length c.slot.length (le_refl _)))
+    ap (λ (d : Core). (clock_end c.slot.length d).core) (pick_false _ _ _ (ne_eqb c.slot.length c.slot.bus (λ e. omega arith)))
+    ∙ ap (λ (x : Ending). x.core) (pick_false _ _ _ (le-ltb c.slot.length c.slot.length (le_refl _)))
 
 bus_kind : (c : Core) → kind_at c.slot.bus c ≡ bus_clock
 unfolding kind_at
@@ -60,7 +60,7 @@ bus_kind c = pick_true _ _ _ (le-leb c.slot.bus c.slot.bus (le_refl _))
 
 wait_kind_lem : (c : Core) → c.slot.bus < c.slot.length → kind_at c.slot.length c ≡ wait_kind c.slot.burst
 unfolding kind_at
-wait_kind_lem c h = pick-false _ _ _ (lt-leb c.slot.length c.slot.bus h)
+wait_kind_lem c h = pick_false _ _ _ (lt-leb c.slot.length c.slot.bus h)
 
 -- ---- one slot
 
@@ -117,7 +117,7 @@ module _ {M : Type 0} (σ : Store M) (c : Core) (b : Buffers M) (k : Clocks) (on
       stretch_clocked σ (system c b k) {m = c.slot.length} waits (omega arith) (behind (omega arith)) (le_refl _) (omega arith)
       ∙ (λ i.
       system (wait_end c longer i)
-      (pick-false _ (transfer σ (source c) (destination c) b) b (ne_eqb c.slot.length c.slot.bus (λ e. omega arith)) i)
+      (pick_false _ (transfer σ (source c) (destination c) b) b (ne_eqb c.slot.length c.slot.bus (λ e. omega arith)) i)
       (counted_by (wait_kind_lem c longer i) (c.slot.length - c.slot.bus) k))
 
 -- the slot of an end is no matter
@@ -201,7 +201,7 @@ module _ {M : Type 0} (σ : Store M) (c : Core) (b : Buffers M) (k : Clocks) (t 
   -- below the block's end a slot begins as the last one did
   end_below : (j : ℕ) → c.block.counter + j < block_count c.block → (slot_end (moved_by j c)).core ≡ moved_by j c
   unfolding slot_end
-  end_below j h = ap (λ (x : Ending). x.core) (pick-false _ _ _ (below j h)) ∙ (λ i. with_slot (sym rest i) (moved_by j c))
+  end_below j h = ap (λ (x : Ending). x.core) (pick_false _ _ _ (below j h)) ∙ (λ i. with_slot (sym rest i) (moved_by j c))
 
   slots_clocked : (j : ℕ) → c.block.counter + suc j ≤ block_count c.block → clocked σ (suc j * (new_slot c).length) (system c b k) ≡ slots_passed σ (suc j) (system c b k)
   unfolding transferred source destination stepped_by
@@ -273,7 +273,7 @@ left_block b l u h = omega (arith, h, count_most b l, leb-false (block_count b) 
 pub run_within : (c : Core) (budget : ℕ) → Kept c → 0 < slots_within c budget → IsRun c budget (slots_within c budget)
 unfolding slots_within
 run_within c budget k =
-    pick-cases (λ (n : ℕ). 0 < n → IsRun c budget n) (at_slot_start c) _ _
+    pick_cases (λ (n : ℕ). 0 < n → IsRun c budget n) (at_slot_start c) _ _
     (λ e p.
     let h = at_slot_start_lem c e in
     let l = least_facts (budget / (new_slot c).length) (bytes_left c.block) in

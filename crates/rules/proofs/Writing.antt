@@ -13,7 +13,7 @@ use Rattle.rules.specs.Commands.{enable, reset, continue, load, restart_reading,
 use Rattle.rules.specs.Registers.{wr3, register, parameter, effect, written, carried_out_as, effect_over}
 use Rattle.rules.specs.declared.Slot.{Slot}
 use Rattle.rules.specs.declared.Core.{Core}
-use Rattle.rules.proofs.Choice.{clash, pick-cases, pick-both, below, ◌⨾◌, table}
+use Rattle.rules.proofs.Choice.{clash, pick_cases, pick_both, below, ◌⨾◌, table}
 use Rattle.rules.proofs.Slots.{free_settled}
 use Rattle.rules.proofs.Ports.{good_configured, good_timed, good_low, good_high, good_reset, good_loaded, low_fits, high_fits}
 use Rattle.rules.proofs.Parameters.{after_valid}
@@ -41,8 +41,8 @@ module _ (byte : ℕ) (c : Core) (f : Settled c.enabled c.slot) (s : SteadyCore 
   enable_kept : Kept (enable c)
   unfolding enable
   enable_kept =
-      pick-cases Kept _ _ _ (λ on. kept c f s)
-      (λ e. pick-cases Kept _ _ _ (λ d. kept _ f s) (λ d. kept_from _ s (enabled_slot _ _ f.slot e) (λ on u. d)))
+      pick_cases Kept _ _ _ (λ on. kept c f s)
+      (λ e. pick_cases Kept _ _ _ (λ d. kept _ f s) (λ d. kept_from _ s (enabled_slot _ _ f.slot e) (λ on u. d)))
 
   reset_steady : SteadyCore (reset c)
   reset_steady =
@@ -86,7 +86,7 @@ module _ (byte : ℕ) (c : Core) (f : Settled c.enabled c.slot) (s : SteadyCore 
 
   wr3_kept : Kept (wr3 byte c)
   unfolding wr3
-  wr3_kept = pick-both Kept _ _ _ enable_kept (kept _ off s)
+  wr3_kept = pick_both Kept _ _ _ enable_kept (kept _ off s)
 
   register_kept : (number : ℕ) → Kept (register number byte c)
   unfolding register
@@ -128,7 +128,7 @@ effect_kept : (byte : ℕ) (c : Core) → byte < 256 → Settled c.enabled c.slo
 unfolding effect_over carried_out_as
 effect_kept byte c h f s =
     pending_kept _ _ (after_valid byte _ s.pending)
-    (pick-both Kept _ _ _ (parameter_kept byte c f s _ h) (register_kept byte c f s _))
+    (pick_both Kept _ _ _ (parameter_kept byte c f s _ h) (register_kept byte c f s _))
 
 -- an accepted write keeps a valid core valid
 pub write_kept : (port byte : ℕ) (c : Core) → byte < 256 → bus_held c ≡ false → Kept c → Kept (written port byte c)

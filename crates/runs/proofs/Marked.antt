@@ -11,7 +11,7 @@ use Rattle.rules.specs.Buffers.{flat}
 use Rattle.rules.specs.World.{System}
 use Rattle.rules.specs.Calls.{Answered}
 use Rattle.rules.specs.Entries.{Poke, flat_outside, Entry, enter, run_over, run}
-use Rattle.rules.proofs.Choice.{pick-cases}
+use Rattle.rules.proofs.Choice.{pick_cases}
 use Rattle.rules.proofs.Warned.{warning_answered}
 use Rattle.records.specs.declared.Record.{Record}
 use Rattle.lines.specs.Lines.{record_line, marked_line, plain_line}
@@ -31,13 +31,13 @@ module _ (xs : List ℕ) (r : Record) (s : System (List ℕ)) where
   write_accepted : WriteAccepted (entry_of xs r)
   unfolding entry_of
   write_accepted =
-      pick-cases WriteAccepted _ _ _
+      pick_cases WriteAccepted _ _ _
       (λ t f. (eqb-true _ _ t, ((warning_answered.exact s.world.core s.clocks r.word r.byte _ f).to refl).0))
-      (λ t. pick-cases WriteAccepted _ _ _
+      (λ t. pick_cases WriteAccepted _ _ _
       (λ t f. absurd (f (warning_answered.read s.world.core s.clocks r.word)))
-      (λ t. pick-cases WriteAccepted _ _ _
+      (λ t. pick_cases WriteAccepted _ _ _
       (λ t f. absurd (f (warning_answered.granted flat s r.clocks)))
-      (λ t. pick-cases WriteAccepted _ _ _ (λ t f. absurd (f refl)) (λ t f. absurd (f refl)))))
+      (λ t. pick_cases WriteAccepted _ _ _ (λ t f. absurd (f refl)) (λ t f. absurd (f refl)))))
 
   line_of : LineOf r (effect xs r s).answered
   line_of =
@@ -58,7 +58,7 @@ each_line xs (r ∷ rs) s = (line_of xs r s, each_line xs rs (effect xs r s).sys
 -- a line written out
 line_as : (r : Record) (a : Answered) → LineOf r a → answer_line r a ≡ pick (eqb a.warning 0) (plain_line r.number a.number a.byte) marked_line
 line_as r a l =
-    pick-cases (λ (xs : List ℕ). answer_line r a ≡ xs) _ _ _
+    pick_cases (λ (xs : List ℕ). answer_line r a ≡ xs) _ _ _
     (λ t. l.plain (eqb-true _ _ t))
     (λ t. (l.marked (eqb-false _ _ t)).2)
 

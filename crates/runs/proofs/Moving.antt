@@ -10,7 +10,7 @@ use lib.ListN.{length, get_or, drop, length-drop}
 use Rattle.rules.specs.Choice.{pick}
 use Rattle.rules.specs.Buffers.{Buffers, flat}
 use Rattle.rules.specs.Entries.{Poke, flat_outside, Entry, outside_change, enter}
-use Rattle.rules.proofs.Choice.{pick_true, pick-ap, either}
+use Rattle.rules.proofs.Choice.{pick_true, pick_ap, either}
 use Rattle.records.specs.Records.{record_at, long_length}
 use Rattle.session.specs.Effects.{pokes, entry_of}
 use Rattle.session.specs.Steps.{Said, Outcome, in_phase, without_line, buffers_kept, last_fault, carried, system_with, version_step, long_step, by_record, record_step, step_of}
@@ -60,11 +60,11 @@ module _ (k : ℕ) (s : Session) (out : List ℕ) (b : Buffers (List ℕ)) where
     version_moves : buffers_kept b (version_step s xs (k + p) ended out) ≡ farther k (buffers_kept b (version_step s (drop k xs) p ended out))
     unfolding version_step
     version_moves =
-        pick-ap (buffers_kept b) (leb (length xs) (k + p)) _ _
+        pick_ap (buffers_kept b) (leb (length xs) (k + p)) _ _
         ∙ lift (λ (x : Said). farther k (buffers_kept b x)) _ _ _ _ (test_here k xs p (k + p) refl)
-        (pick-ap (buffers_kept b) ended _ _
+        (pick_ap (buffers_kept b) ended _ _
         ∙ lift (λ (x : Said). farther k (buffers_kept b x)) _ _ _ _ refl (fault_moves 20 p (k + p) refl) (quiet_moves 1 s p (k + p) refl))
-        (pick-ap (buffers_kept b) (eqb (get_or xs (k + p) 0) 1) _ _
+        (pick_ap (buffers_kept b) (eqb (get_or xs (k + p) 0) 1) _ _
         ∙ lift (λ (x : Said). farther k (buffers_kept b x)) _ _ _ _ (ap (λ (n : ℕ). eqb n 1) (byte_moves k xs p (k + p) refl))
         (quiet_moves 0 (in_phase 1 0 s.device) (p + 1) (k + p + 1) (omega arith))
         (fault_moves 20 (p + 1) (k + p + 1) (omega arith)))
@@ -76,10 +76,10 @@ module _ (k : ℕ) (s : Session) (out : List ℕ) (b : Buffers (List ℕ)) where
     long_step_moves : buffers_kept b (long_step s xs (k + p) ended out) ≡ farther k (buffers_kept b (long_step s (drop k xs) p ended out))
     unfolding long_step
     long_step_moves =
-        pick-ap (buffers_kept b) (leb s.left (length xs - (k + p))) _ _
+        pick_ap (buffers_kept b) (leb s.left (length xs - (k + p))) _ _
         ∙ lift (λ (x : Said). farther k (buffers_kept b x)) _ _ _ _ (ap (leb s.left) left_here)
         (fault_moves 22 (p + s.left) (k + p + s.left) (omega arith))
-        (pick-ap (buffers_kept b) ended _ _
+        (pick_ap (buffers_kept b) ended _ _
         ∙ lift (λ (x : Said). farther k (buffers_kept b x)) _ _ _ _ refl
         (fault_moves 21 (p + (length (drop k xs) - p)) (k + p + (length xs - (k + p))) (omega (arith, left_here)))
         (ap (λ (n : ℕ). buffers_kept b (without_line 1 (k + p + (length xs - (k + p))) (in_phase 2 (s.left - n) s.device) out)) left_here

@@ -11,7 +11,7 @@ use lib.ListN.{length, get_or}
 use Rattle.rules.specs.Choice.{pick}
 use Rattle.rules.specs.Buffers.{Buffers, flat}
 use Rattle.rules.specs.Entries.{Poke, flat_outside, Entry, outside_change, enter}
-use Rattle.rules.proofs.Choice.{pick_true, pick-false, pick-both, pick-cases, either}
+use Rattle.rules.proofs.Choice.{pick_true, pick_false, pick_both, pick_cases, either}
 use Rattle.records.specs.Records.{none, of_kind, record_at, long_length}
 use Rattle.records.specs.BigEndian.{word}
 use Rattle.session.specs.Effects.{pokes, entry_of}
@@ -76,7 +76,7 @@ module _ (s : Session) (out : List ℕ) (b : Buffers (List ℕ)) where
 
     version_is : (zs : List ℕ) (e : Bool) → p < length zs → version_step s zs p e out ≡ pick (eqb (get_or zs p 0) 1) (without_line 0 (p + 1) (in_phase 1 0 s.device) out) (last_fault 20 (p + 1) s.device out)
     unfolding version_step
-    version_is zs e h = pick-false _ _ _ (lt-leb (length zs) p h)
+    version_is zs e h = pick_false _ _ _ (lt-leb (length zs) p h)
 
     version_stays : p < length xs → version_step s (xs ++ ys) p ended out ≡ version_step s xs p false out
     version_stays h =
@@ -89,7 +89,7 @@ module _ (s : Session) (out : List ℕ) (b : Buffers (List ℕ)) where
     version_goes h n = goes (ap (λ (x : Said). x.step.progress) (sym (version_is xs false h)) ∙ n)
       where
         goes : (pick (eqb (get_or xs p 0) 1) (without_line 0 (p + 1) (in_phase 1 0 s.device) out) (last_fault 20 (p + 1) s.device out)).step.progress ≡ 1 → ⊥
-        goes = pick-both (λ (x : Said). x.step.progress ≡ 1 → ⊥) _ _ _ (λ e. omega (arith, e)) (λ e. omega (arith, e))
+        goes = pick_both (λ (x : Said). x.step.progress ≡ 1 → ⊥) _ _ _ (λ e. omega (arith, e)) (λ e. omega (arith, e))
 
     version : ltb (length out) 72 ≡ false → eqb s.phase 0 ≡ true → StepStands s xs p out b ys ended
     version r f =
@@ -115,7 +115,7 @@ module _ (s : Session) (out : List ℕ) where
 
   long_rest : (zs : List ℕ) (p : ℕ) (e : Bool) → length zs - p < s.left → long_step s zs p e out ≡ rest e (p + (length zs - p)) (s.left - (length zs - p))
   unfolding long_step rest
-  long_rest zs p e h = pick-false _ _ _ (lt-leb s.left (length zs - p) h)
+  long_rest zs p e h = pick_false _ _ _ (lt-leb s.left (length zs - p) h)
 
   rest_waits : (q left : ℕ) → rest false q left ≡ without_line 1 q (in_phase 2 left s.device) out
   unfolding rest pick
@@ -178,7 +178,7 @@ module _ (s : Session) (out : List ℕ) (b : Buffers (List ℕ)) where
 
   step_long : (zs : List ℕ) (p : ℕ) (e : Bool) → (long_length zs p ≡ 0 → ⊥) → record_step s zs p e out b ≡ buffers_kept b (without_line 0 (p + 2) (in_phase 2 (long_length zs p) s.device) out)
   unfolding record_step
-  step_long zs p e h = pick-false _ _ _ (ne_eqb (long_length zs p) 0 h)
+  step_long zs p e h = pick_false _ _ _ (ne_eqb (long_length zs p) 0 h)
 
   -- nothing but a record that is not all there waits
   by_record_waits : (zs : List ℕ) (p : ℕ) → by_record (none 0 p) s zs out b ≡ buffers_kept b (without_line 1 p s out)
@@ -188,10 +188,10 @@ module _ (s : Session) (out : List ℕ) (b : Buffers (List ℕ)) where
   by_record_goes : (r : Record) (zs : List ℕ) → (r.number ≡ 0 → ⊥) → (by_record r s zs out b).said.step.progress ≡ 1 → ⊥
   unfolding by_record
   by_record_goes r zs h =
-      pick-cases (λ (o : Outcome). o.said.step.progress ≡ 1 → ⊥) (eqb r.number 0) _ _
+      pick_cases (λ (o : Outcome). o.said.step.progress ≡ 1 → ⊥) (eqb r.number 0) _ _
       (λ e. absurd (h (eqb-true r.number 0 e)))
-      (λ e. pick-both (λ (o : Outcome). o.said.step.progress ≡ 1 → ⊥) _ _ _ (λ z. omega (arith, z))
-      (pick-both (λ (o : Outcome). o.said.step.progress ≡ 1 → ⊥) _ _ _ (λ z. omega (arith, z)) (λ z. omega (arith, z))))
+      (λ e. pick_both (λ (o : Outcome). o.said.step.progress ≡ 1 → ⊥) _ _ _ (λ z. omega (arith, z))
+      (pick_both (λ (o : Outcome). o.said.step.progress ≡ 1 → ⊥) _ _ _ (λ z. omega (arith, z)) (λ z. omega (arith, z))))
 
   -- a record does the same with any bytes that give the same entry
   by_record_stays : (r : Record) (zs xs : List ℕ) → entry_of zs r ≡ entry_of xs r → by_record r s zs out b ≡ by_record r s xs out b
@@ -217,7 +217,7 @@ module _ (s : Session) (out : List ℕ) (b : Buffers (List ℕ)) where
         absurd (omega (arith, subst (λ (r : Record). 0 < r.number) (sym (record_is xs ys p xs false h)) some, n)))))
       where
         some : 0 < (pick (eqb (word xs p) 0) (none 22 p) (of_kind xs p (word xs p) (get_or xs (p + 2) 0))).number
-        some = pick-both (λ (r : Record). 0 < r.number) _ _ _ (omega arith) (stands_kind xs p (word xs p) (get_or xs (p + 2) 0)).some
+        some = pick_both (λ (r : Record). 0 < r.number) _ _ _ (omega arith) (stands_kind xs p (word xs p) (get_or xs (p + 2) 0)).some
 
     short_stands : long_length xs p ≡ 0 → ((record_at xs p false).number ≡ 0 → ⊥) → record_step s (xs ++ ys) p ended out b ≡ record_step s xs p false out b
     short_stands l n =

@@ -13,7 +13,7 @@ use lib.Seq.{drop-drop, drop-append_seam}
 use Rattle.rules.specs.Choice.{pick}
 use Rattle.rules.specs.Bytes.{AreBytes}
 use Rattle.rules.specs.Entries.{Poke, outside_change}
-use Rattle.rules.proofs.Choice.{pick_true, pick-false, either}
+use Rattle.rules.proofs.Choice.{pick_true, pick_false, either}
 use Rattle.records.specs.Records.{record_at}
 use Rattle.records.specs.Encoding.{SessionRecord, to_write, to_read, to_grant, to_memory, InRange, kind_and_arguments, record_bytes}
 use Rattle.records.specs.BigEndian.{bytes_of}
@@ -71,7 +71,7 @@ module _ (xs : List ℕ) (p : ℕ) where
     decoded_behind : decoded_from (suc most) xs p ≡ record_before (record_at xs p true) (decoded_from most xs (record_at xs p true).next)
     unfolding decoded_from
     decoded_behind =
-        pick-false _ _ _ (ne_eqb (record_at xs p true).number 5 e) ∙ pick-false _ _ _ (lt-leb 20 (record_at xs p true).number f)
+        pick_false _ _ _ (ne_eqb (record_at xs p true).number 5 e) ∙ pick_false _ _ _ (lt-leb 20 (record_at xs p true).number f)
 
     takes : p < (record_at xs p true).next
     takes = (stands xs p).takes e (λ h. omega arith)
@@ -87,7 +87,7 @@ module _ (xs : List ℕ) (p : ℕ) where
 
 decoded_version : (xs : List ℕ) → eqb (get_or xs 0 0) 1 ≡ false → decoded xs ≡ ends_by 20
 unfolding decoded
-decoded_version xs e = pick-false _ _ _ e
+decoded_version xs e = pick_false _ _ _ e
 
 decoded_records : (xs : List ℕ) → eqb (get_or xs 0 0) 1 ≡ true → decoded xs ≡ decoded_from (length xs) xs 1
 unfolding decoded
@@ -198,7 +198,7 @@ module _ (xs : List ℕ) (small : AreBytes xs) where
   fault_here : (most p : ℕ) → ((record_at xs p true).number ≡ 5 → ⊥) → 20 ≤ (record_at xs p true).number → decoded_from (suc most) xs p ≡ ends_by (record_at xs p true).number
   unfolding decoded_from
   fault_here most p e f =
-      pick-false _ _ _ (ne_eqb (record_at xs p true).number 5 e) ∙ pick_true _ _ _ (le-leb 20 (record_at xs p true).number f)
+      pick_false _ _ _ (ne_eqb (record_at xs p true).number 5 e) ∙ pick_true _ _ _ (le-leb 20 (record_at xs p true).number f)
 
   encoded_from : (most p : ℕ) → length xs < p + most → (decoded_from most xs p).fault ≡ 0 → EncodedFrom xs p
   encoded_from zero p l z = nothing_from p (omega arith)

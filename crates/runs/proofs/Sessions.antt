@@ -17,7 +17,7 @@ use Rattle.rules.specs.Buffers.{flat}
 use Rattle.rules.specs.World.{System}
 use Rattle.rules.specs.Calls.{Answer}
 use Rattle.rules.specs.Entries.{Poke, flat_outside, Entry, port_write, port_read, clock_grant, outside_change, bytes_written, run, run_over}
-use Rattle.rules.proofs.Choice.{pick-both, pick-cases, pick_true}
+use Rattle.rules.proofs.Choice.{pick_both, pick_cases, pick_true}
 use Rattle.rules.proofs.Accounts.{demand3}
 use Rattle.rules.proofs.Warned.{warnings_noted}
 use Rattle.rules.proofs.Reached.{every_reached}
@@ -81,7 +81,7 @@ module _ (xs : List ℕ) where
   -- what holds of the four kinds of entries that a session makes holds of a record's entry
   pub each_kind : (P : Entry flat (List Poke) → Type 0) (r : Record) → P (port_write r.word r.byte) → P (port_read r.word) → P (clock_grant r.clocks) → ((ps : List Poke) → P (outside_change ps)) → P (entry_of xs r)
   unfolding entry_of
-  each_kind P r w d g m = pick-both P _ _ _ w (pick-both P _ _ _ d (pick-both P _ _ _ g (pick-both P _ _ _ (m _) (m _))))
+  each_kind P r w d g m = pick_both P _ _ _ w (pick_both P _ _ _ d (pick_both P _ _ _ g (pick_both P _ _ _ (m _) (m _))))
 
   Write : List (Entry flat (List Poke)) → Type 0
   Write es = AreBytes (bytes_written es)
@@ -102,14 +102,14 @@ module _ (xs : List ℕ) where
     unfolding decoded_from entries_of Writes
     decoded_writes zero p = none_writes 0
     decoded_writes (suc most) p =
-        pick-both Writes (eqb (record_at xs p true).number 5) _ _ (none_writes 0)
-        (pick-both Writes (leb 20 (record_at xs p true).number) _ _ (none_writes (record_at xs p true).number)
+        pick_both Writes (eqb (record_at xs p true).number 5) _ _ (none_writes 0)
+        (pick_both Writes (leb 20 (record_at xs p true).number) _ _ (none_writes (record_at xs p true).number)
         (entry_writes (record_at xs p true) _ (small_byte xs small p) (decoded_writes most (record_at xs p true).next)))
 
     -- the bytes that a session of bytes writes to ports are bytes
     pub session_writes : AreBytes (bytes_written (session_entries xs))
     unfolding decoded Write Writes
-    session_writes = pick-both Writes (eqb (get_or xs 0 0) 1) _ _ (decoded_writes (length xs) 1) (none_writes 20)
+    session_writes = pick_both Writes (eqb (get_or xs 0 0) 1) _ _ (decoded_writes (length xs) 1) (none_writes 20)
 
 pub session_runs : (xs : List ℕ) → SessionRuns xs
 session_runs xs =
@@ -131,14 +131,14 @@ known_from : (most : ℕ) (xs : List ℕ) (p : ℕ) → Known (decoded_from most
 unfolding decoded_from Known
 known_from zero xs p = inl refl
 known_from (suc most) xs p =
-    pick-both Known (eqb (record_at xs p true).number 5) _ _ (inl refl)
-    (pick-cases Known (leb 20 (record_at xs p true).number) _ _
+    pick_both Known (eqb (record_at xs p true).number 5) _ _ (inl refl)
+    (pick_cases Known (leb 20 (record_at xs p true).number) _ _
     (λ e. ⊎_elim (λ f. inr (inr (inl f))) (λ f. inr (inr (inr f))) ((stands xs p).fault (leb-true 20 (record_at xs p true).number e)))
     (λ e. known_from most xs (record_at xs p true).next))
 
 pub fault_known : (xs : List ℕ) → FaultKnown xs
 unfolding decoded Known
-fault_known xs = pick-both Known (eqb (get_or xs 0 0) 1) _ _ (known_from (length xs) xs 1) (inr (inl refl))
+fault_known xs = pick_both Known (eqb (get_or xs 0 0) 1) _ _ (known_from (length xs) xs 1) (inr (inl refl))
 
 -- ---- no record is left behind
 

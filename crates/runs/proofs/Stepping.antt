@@ -12,7 +12,7 @@ use lib.ListN.{length, get_or, get_or-eq_default}
 use Rattle.rules.specs.Choice.{pick}
 use Rattle.rules.specs.Buffers.{Buffers, placed}
 use Rattle.rules.specs.Calls.{Answer}
-use Rattle.rules.proofs.Choice.{pick_true, pick-false, either, clash}
+use Rattle.rules.proofs.Choice.{pick_true, pick_false, either, clash}
 use Rattle.zxndma.specs.Answers.{device_at_power_on}
 use Rattle.zxndma.specs.declared.Device.{Device}
 use Rattle.records.specs.Records.{none, record_at, long_length}
@@ -61,7 +61,7 @@ module _ (xs out : List ℕ) (room : 72 ≤ length out) (b : Buffers (List ℕ))
 
   step_long : (p : ℕ) → (long_length xs p ≡ 0 → ⊥) → record_step (in_phase 1 0 d) xs p true out b ≡ buffers_kept b (without_line 0 (p + 2) (in_phase 2 (long_length xs p) d) out)
   unfolding record_step
-  step_long p e = pick-false _ _ _ (ne_eqb (long_length xs p) 0 e)
+  step_long p e = pick_false _ _ _ (ne_eqb (long_length xs p) 0 e)
 
   -- a record that was carried out
   onward_carried :
@@ -84,7 +84,7 @@ module _ (xs out : List ℕ) (room : 72 ≤ length out) (b : Buffers (List ℕ))
   onward_record : (k most p : ℕ) (r : Record) → Stands xs p r → (p < r.next → onward k xs (carried r (effect xs r (system_with d b)) out) ≡ followed most xs r (effect xs r (system_with d b))) → onward k xs (by_record r (in_phase 1 0 d) xs out b) ≡ after most xs r (system_with d b)
   unfolding by_record after
   onward_record k most p r s h =
-      ap (onward k xs) (pick-false _ _ _ (ne_eqb r.number 0 (λ e. omega (arith, s.some, e))))
+      ap (onward k xs) (pick_false _ _ _ (ne_eqb r.number 0 (λ e. omega (arith, s.some, e))))
       ∙ both (λ (x : Outcome) (y : Ended). onward k xs x ≡ y) (eqb r.number 5) _ _ _ _ (λ e. last_counts_lem k r.next)
       (λ e. both (λ (x : Outcome) (y : Ended). onward k xs x ≡ y) (leb 20 r.number) _ _ _ _
       (λ f. last_fault_lem k r.next r.number)
@@ -105,7 +105,7 @@ module _ (xs out : List ℕ) (room : 72 ≤ length out) (b : Buffers (List ℕ))
 
   after_fault : (most p n : ℕ) → 20 ≤ n → after most xs (none n p) (system_with d b) ≡ ended_by (fault_line n) n (system_with d b)
   unfolding after
-  after_fault most p n h = pick-false _ _ _ (ne_eqb n 5 (λ e. omega (arith, h, e))) ∙ pick_true _ _ _ (le-leb 20 n h)
+  after_fault most p n h = pick_false _ _ _ (ne_eqb n 5 (λ e. omega (arith, h, e))) ∙ pick_true _ _ _ (le-leb 20 n h)
 
   onward_fault : (k most p q n : ℕ) (x : Said) → x ≡ last_fault n q d out → record_at xs p true ≡ none n p → 20 ≤ n → onward k xs (buffers_kept b x) ≡ after most xs (record_at xs p true) (system_with d b)
   onward_fault k most p q n x e r h =
@@ -165,11 +165,11 @@ module _ (xs : List ℕ) where
 
     other_version : 0 < length xs → (get_or xs 0 0 ≡ 1 → ⊥) → version_step session_at_start xs 0 true out ≡ last_fault 20 (0 + 1) device_at_power_on out
     unfolding version_step
-    other_version h e = pick-false _ _ _ (lt-leb (length xs) 0 h) ∙ pick-false _ _ _ (ne_eqb (get_or xs 0 0) 1 e)
+    other_version h e = pick_false _ _ _ (lt-leb (length xs) 0 h) ∙ pick_false _ _ _ (ne_eqb (get_or xs 0 0) 1 e)
 
     right_version : 0 < length xs → get_or xs 0 0 ≡ 1 → version_step session_at_start xs 0 true out ≡ without_line 0 (0 + 1) (in_phase 1 0 device_at_power_on) out
     unfolding version_step
-    right_version h e = pick-false _ _ _ (lt-leb (length xs) 0 h) ∙ pick_true _ _ _ (eq-eqb (get_or xs 0 0) 1 e)
+    right_version h e = pick_false _ _ _ (lt-leb (length xs) 0 h) ∙ pick_true _ _ _ (eq-eqb (get_or xs 0 0) 1 e)
 
     version_goes : (k : ℕ) → onward k xs (buffers_kept start.world.buffers (without_line 0 (0 + 1) (in_phase 1 0 device_at_power_on) out)) ≡ steps_from k (in_phase 1 0 device_at_power_on) xs 1 out start.world.buffers
     unfolding onward pick
@@ -178,7 +178,7 @@ module _ (xs : List ℕ) where
     session_fault : (get_or xs 0 0 ≡ 1 → ⊥) → session xs ≡ ended_by (fault_line 20) 20 start
     unfolding decoded
     session_fault e =
-        ap (λ (d : Decoded). played xs d start) (pick-false _ _ _ (ne_eqb (get_or xs 0 0) 1 e))
+        ap (λ (d : Decoded). played xs d start) (pick_false _ _ _ (ne_eqb (get_or xs 0 0) 1 e))
         ∙ played_fault xs start 20 (ne_eqb 20 0 (λ z. omega (arith, z)))
 
     session_records : get_or xs 0 0 ≡ 1 → session xs ≡ played xs (decoded_from (length xs) xs 1) start

@@ -8,7 +8,7 @@ use Rattle.rules.specs.Entries.{Poke, poked, flat_outside, Entry, port_write, po
 use Rattle.rules.specs.Choice.{pick}
 use Rattle.rules.specs.declared.Clocks.{Clocks}
 use Rattle.rules.specs.declared.Core.{Core}
-use Rattle.rules.proofs.Choice.{pick-both}
+use Rattle.rules.proofs.Choice.{pick_both}
 use Rattle.rules.proofs.Warned.{warning_answered}
 use Rattle.zxndma.specs.Answers.{system_of, write_answer, read_answer, grant_answer}
 use Rattle.zxndma.specs.declared.Device.{Device}
@@ -21,7 +21,7 @@ use Rattle.records.specs.declared.Record.{Record}
 -- a write gives no byte
 write_byte : (c : Core) (k : Clocks) (port byte : ℕ) → (write_reply c k port byte).answered.byte ≡ 0
 unfolding write_reply_over unless_refused
-write_byte c k port byte = pick-both (λ (r : Reply). r.answered.byte ≡ 0) _ _ _ refl refl
+write_byte c k port byte = pick_both (λ (r : Reply). r.answered.byte ≡ 0) _ _ _ refl refl
 
 module _ (xs : List ℕ) (r : Record) where
   entry_write : r.number ≡ 1 → port_write r.word r.byte ≡ entry_of xs r

@@ -4,7 +4,7 @@ use Rattle.std.proofs.Common.{◌≡◌, ℕ, ◌≤◌, Bool, true, false, eqb,
 use Rattle.rules.specs.Choice.{pick}
 use Rattle.rules.specs.Buffers.{Buffers}
 use Rattle.rules.specs.Calls.{Answer}
-use Rattle.rules.proofs.Choice.{pick-both, pick-cases}
+use Rattle.rules.proofs.Choice.{pick_both, pick_cases}
 use Rattle.records.specs.Records.{record_at}
 use Rattle.records.specs.declared.Record.{Record}
 use Rattle.lines.specs.Lines.{PutLine, record_line}
@@ -68,37 +68,37 @@ Fits x = x.step.length ≤ 72
 fits_version : (s : Session) (xs : List ℕ) (p : ℕ) (ended : Bool) (out : List ℕ) → Fits (version_step s xs p ended out)
 unfolding version_step Fits
 fits_version s xs p ended out =
-    pick-both Fits _ _ _
-    (pick-both Fits ended _ _ (number_room 83 20) (omega arith))
-    (pick-both Fits _ _ _ (omega arith) (number_room 83 20))
+    pick_both Fits _ _ _
+    (pick_both Fits ended _ _ (number_room 83 20) (omega arith))
+    (pick_both Fits _ _ _ (omega arith) (number_room 83 20))
 
 fits_long : (s : Session) (xs : List ℕ) (p : ℕ) (ended : Bool) (out : List ℕ) → Fits (long_step s xs p ended out)
 unfolding long_step Fits
 fits_long s xs p ended out =
-    pick-both Fits _ _ _ (number_room 83 22) (pick-both Fits ended _ _ (number_room 83 21) (omega arith))
+    pick_both Fits _ _ _ (number_room 83 22) (pick_both Fits ended _ _ (number_room 83 21) (omega arith))
 
 fits_record : (r : Record) (s : Session) (xs out : List ℕ) (b : Buffers (List ℕ)) → Fits (by_record r s xs out b).said
 unfolding by_record Fits
 fits_record r s xs out b =
-    pick-both (λ (o : Outcome). Fits o.said) _ _ _ (omega arith)
-    (pick-both (λ (o : Outcome). Fits o.said) _ _ _ (counts_room s.device.clocks)
-    (pick-both (λ (o : Outcome). Fits o.said) _ _ _ (number_room 83 r.number) (record_room r.number _ _ _)))
+    pick_both (λ (o : Outcome). Fits o.said) _ _ _ (omega arith)
+    (pick_both (λ (o : Outcome). Fits o.said) _ _ _ (counts_room s.device.clocks)
+    (pick_both (λ (o : Outcome). Fits o.said) _ _ _ (number_room 83 r.number) (record_room r.number _ _ _)))
 
 module _ (s : Session) (xs : List ℕ) (p : ℕ) (ended : Bool) (out : List ℕ) (b : Buffers (List ℕ)) where
   step_fits : (step_of s xs p ended out b).said.step.length ≤ length out
   unfolding step_of record_step Fits
   step_fits =
-      pick-cases (λ (o : Outcome). o.said.step.length ≤ length out) (ltb (length out) 72) _ _ (λ e. omega arith)
+      pick_cases (λ (o : Outcome). o.said.step.length ≤ length out) (ltb (length out) 72) _ _ (λ e. omega arith)
       (λ e. let
       room : 72 ≤ length out = ltb-false (length out) 72 e
       in
-      pick-both (λ (o : Outcome). o.said.step.length ≤ length out) _ _ _
+      pick_both (λ (o : Outcome). o.said.step.length ≤ length out) _ _ _
       (omega (arith, fits_version s xs p ended out))
-      (pick-both (λ (o : Outcome). o.said.step.length ≤ length out) _ _ _
-      (pick-both (λ (o : Outcome). o.said.step.length ≤ length out) _ _ _
+      (pick_both (λ (o : Outcome). o.said.step.length ≤ length out) _ _ _
+      (pick_both (λ (o : Outcome). o.said.step.length ≤ length out) _ _ _
       (omega (arith, fits_record (record_at xs p ended) s xs out b))
       (omega arith))
-      (pick-both (λ (o : Outcome). o.said.step.length ≤ length out) _ _ _
+      (pick_both (λ (o : Outcome). o.said.step.length ≤ length out) _ _ _
       (omega (arith, fits_long s xs p ended out))
       (omega arith))))
 

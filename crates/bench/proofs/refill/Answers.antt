@@ -6,7 +6,7 @@ use mathlib.Core.Path.{refl, subst}
 use mathlib.Core.Bool.{true, false}
 use borrow.Author.Tests.{eq-eqb, ne_eqb}
 use Rattle.rules.specs.Choice.{pick}
-use Rattle.rules.proofs.Choice.{pick_true, pick-false}
+use Rattle.rules.proofs.Choice.{pick_true, pick_false}
 use Rattle.bench.proofs.Turning.{refilled, read_into}
 use Rattle.bench.specs.Turning.{Refilled}
 use Rattle.bench.proofs.refill.Goals as goal
@@ -23,7 +23,7 @@ unfolding pick
 returns-in-Ok g c =
     refilled c.args.state c.args.input.now c.requires c.read.new.buf c.keep-kept.ensures c.keep-kept.auto.input false
     c.in-Ok.ensures.bound.0
-    (pick-false _ _ _ (ne_eqb _ 0 c.if-more-eq0.false))
+    (pick_false _ _ _ (ne_eqb _ 0 c.if-more-eq0.false))
 
 pub returns : goal.returns
 unfolding pick

@@ -5,12 +5,12 @@ use Rattle.rules.specs.Slots.{larger}
 use borrow.Author.Tests.{lt-ltb, le-ltb}
 use Rattle.floor.proofs.larger_of.Goals as goal
 
-pub returns-then-x-y : goal.returns-then-x-y
+pub returns-then-below : goal.returns-then-below
 unfolding larger pick
-returns-then-x-y c =
-    simp (lt-ltb _ _ c.if-x-y.true)
+returns-then-below c =
+    simp (lt-ltb _ _ c.if-below.true)
 
 pub returns : goal.returns
 unfolding larger pick
 returns c =
-    simp (le-ltb _ _ c.if-x-y.false)
+    simp (le-ltb _ _ c.if-below.false)

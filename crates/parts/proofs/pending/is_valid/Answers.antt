@@ -7,12 +7,12 @@ use Rattle.rules.proofs.Choice.{strict}
 use Rattle.parts.proofs.Parameters.{divisor_or_both, from_timing_on}
 use Rattle.parts.proofs.pending.is_valid.Goals as goal
 
-pub returns-then-p-lt-A_TIMING : goal.returns-then-p-lt-A_TIMING
+pub returns-then-of_wr0 : goal.returns-then-of_wr0
 unfolding valid_pending any pick
-returns-then-p-lt-A_TIMING c =
-    simp (lt-ltb _ _ c.if-p-lt-A_TIMING.true)
+returns-then-of_wr0 c =
+    simp (lt-ltb _ _ c.if-of_wr0.true)
 
 pub returns : goal.returns
 unfolding divisor_or_both
 returns c =
-    simp (← from_timing_on c.args.p c.if-p-lt-A_TIMING.false, strict)
+    simp (← from_timing_on c.args.p c.if-of_wr0.false, strict)

@@ -2,7 +2,7 @@
 -- Assumes nothing.
 use Rattle.std.proofs.Common.{sym, ◌∙◌}
 use Rattle.rules.specs.Speed.{factor}
-use Rattle.rules.proofs.Choice.{pick_true, pick-false}
+use Rattle.rules.proofs.Choice.{pick_true, pick_false}
 use Rattle.parts.proofs.speed.factor_of.Goals as goal
 
 pub returns-then-is_speed : goal.returns-then-is_speed
@@ -13,4 +13,4 @@ returns-then-is_speed c =
 pub returns : goal.returns
 unfolding factor
 returns c =
-    sym (pick-false _ _ _ (sym c.is_speed.ensures ∙ c.if-is_speed.false))
+    sym (pick_false _ _ _ (sym c.is_speed.ensures ∙ c.if-is_speed.false))
