@@ -33,6 +33,7 @@ pub const READ_MASK: u16 = 512;
 const B_BOTH: u16 = 384;
 
 // The next one, the lowest set bit; 0 for none.
+#[tactic(auto, unfolding(rules::specs::Pending::next, rules::specs::Choice::first_of, rules::specs::Choice::pick))]
 pub fn next_of(p: u16) -> u16
     ensures { result ≡ next p }
 {

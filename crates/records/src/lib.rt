@@ -3,7 +3,7 @@
 
 ghost use Rattle.std.specs.Prelude.{◌≡◌, ◌+◌, ◌*◌, ◌≤◌, ◌<◌, length};
 ghost use Rattle.records.specs.Records.{short, behind, write_record, read_record, grant_record, memory_record, of_kind, record_at, long_length};
-ghost use Rattle.records.specs.Records.{none as noRecord};
+ghost use Rattle.records.specs.Records.{none as no_record};
 ghost use Rattle.records.specs.BigEndian.{word, quad};
 
 // What stands at a place of a session's bytes.
@@ -84,7 +84,7 @@ fn quad_at(input: &[u8], at: usize) -> u32
 }
 
 fn no_record(number: u8, place: usize) -> Record
-    ensures { result ≡ noRecord number place }
+    ensures { result ≡ no_record number place }
 {
     Record {
         number,

@@ -4,7 +4,7 @@ ghost use Rattle.rules.specs.Bytes.{with_low, with_high};
 ghost use Rattle.rules.specs.Parts.{with_a, with_b, with_block, with_length, with_control, with_prescaler};
 ghost use Rattle.rules.specs.Ports.{timed, addressed_low, addressed_high};
 ghost use Rattle.rules.specs.Registers.{wr0, wr1, wr2, wr3, wr4, wr5, register, masked, parameter, carried_out_as, effect, in_mode, written};
-ghost use Rattle.rules.specs.Warnings.{warning as warningOf};
+ghost use Rattle.rules.specs.Warnings.{warning as warning_of};
 ghost use Rattle.registers.specs.Answers.{decoded};
 
 use crate::command;
@@ -255,7 +255,7 @@ fn carry_out(which: u16, byte: u8, c: Core) -> Core
 
 // A byte takes effect: it is carried out, and what is pending after it is pending. Its warning goes by what was pending.
 fn take_effect(byte: u8, c: Core) -> Decoded
-    ensures { result ≡ decoded (warningOf c.pending byte) (effect byte c) }
+    ensures { result ≡ decoded (warning_of c.pending byte) (effect byte c) }
 {
     let parameters = c.pending;
     let which = pending::next_of(parameters);
@@ -268,7 +268,7 @@ fn take_effect(byte: u8, c: Core) -> Decoded
 
 // An accepted write: its warning, by what was pending before it, and the core after it.
 pub fn write(port: u16, byte: u8, c: Core) -> Decoded
-    ensures { result ≡ decoded (warningOf c.pending byte) (written port byte c) }
+    ensures { result ≡ decoded (warning_of c.pending byte) (written port byte c) }
 {
     let c = in_mode(port, c);
     take_effect(byte, c)

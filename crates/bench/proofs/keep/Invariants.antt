@@ -1,3 +1,5 @@
+-- Those from `at` up to `from` are at the front, `count` of them, and those behind are where they were. Left are those up to `have`.
+-- Assumes nothing.
 use Prim.Native.Nat.{◌≤◌, ◌-◌}
 use lib.ListN.{length}
 use Rattle.bench.proofs.Buffered.{Keeping}

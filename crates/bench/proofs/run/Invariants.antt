@@ -1,3 +1,5 @@
+-- So many turns from the start led here, as the count has gone down. Left is the count.
+-- Assumes nothing.
 use Rattle.clocking.specs.Answers.{borrowed}
 use Rattle.bench.proofs.Turning.{Running}
 use Rattle.bench.proofs.run.Given as goal

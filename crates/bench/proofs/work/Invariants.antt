@@ -1,3 +1,5 @@
+-- The steps so far and those to come are all the steps over the bytes at hand. Left are the bytes that are not taken.
+-- Assumes nothing.
 use Prim.Native.Nat.{◌≤◌}
 use lib.ListN.{length, take}
 use Rattle.bench.proofs.Working.{Going, to_go}

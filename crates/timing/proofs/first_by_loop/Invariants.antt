@@ -1,3 +1,5 @@
+-- What is left of the search gives the register that the whole search gives. Left is the number of places.
+-- Assumes nothing.
 use Rattle.rules.specs.Readback.{seek, chosen}
 use Rattle.std.proofs.Common.{◌≡◌}
 use Rattle.timing.proofs.first_by_loop.Given as goal

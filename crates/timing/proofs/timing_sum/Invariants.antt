@@ -1,3 +1,5 @@
+-- The sum so far and that of the pairs left make the whole. Left are the pairs from i on.
+-- Assumes nothing.
 use Rattle.std.proofs.Common.{◌-◌}
 use Rattle.timing.proofs.Sums.{Going}
 use Rattle.timing.proofs.timing_sum.Given as goal

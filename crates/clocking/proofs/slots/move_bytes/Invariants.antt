@@ -1,3 +1,5 @@
+-- Ports and buffers are those after i bytes, and the strides are those of the ports' steps. Left are the bytes from i up to k.
+-- Assumes nothing.
 use Prim.Native.Nat.{◌-◌}
 use mathlib.Core.Path.{◌≡◌}
 use Rattle.rules.specs.Ports.{stride}

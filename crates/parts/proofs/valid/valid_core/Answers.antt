@@ -24,7 +24,7 @@ pub returns : goal.returns
 returns c =
     let core = c.args.c in
     let settles = progress_settles core c.valid_cycle-a.ensures c.valid_cycle-b.ensures c.is_speed-speed.ensures c.valid_readback-readback.ensures in
-    let slot-valid = holds {t = valid_slot core.enabled core.slot} c.valid_slot.ensures c.if-not-valid_slot.false in
+    let slot_valid = holds {t = valid_slot core.enabled core.slot} c.valid_slot.ensures c.if-not-valid_slot.false in
     c.valid_progress.ensures
     ∙ progress_test _ _ core.slot c.is_unmoved-unmoved.ensures c.is_finished-finished.ensures
-    ∙ settles c.if-not-a-b.false (holds c.is_valid.ensures c.if-not-is_valid.false) slot-valid
+    ∙ settles c.if-not-a-b.false (holds c.is_valid.ensures c.if-not-is_valid.false) slot_valid

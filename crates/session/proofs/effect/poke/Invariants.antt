@@ -1,3 +1,5 @@
+-- The bytes from `at` on, put into the memory as it is, make of it what all of them make of the memory as it was. Left are these bytes.
+-- Assumes nothing.
 use Rattle.std.proofs.Common.{◌-◌}
 use Rattle.session.proofs.Effects.{Poking}
 use Rattle.session.proofs.effect.poke.Given as goal

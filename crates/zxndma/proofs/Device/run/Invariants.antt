@@ -1,3 +1,5 @@
+-- What has passed is as many clocks of the definition as are no longer left, and the rest has room. Left are the clocks.
+-- Assumes nothing.
 use Rattle.rules.specs.Buffers.{flat}
 use Rattle.rules.proofs.Turns.{Going}
 use Rattle.zxndma.proofs.Turns.{made}
