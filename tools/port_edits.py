@@ -14,15 +14,9 @@ import glob
 import os
 import sys
 
+sys.dont_write_bytecode = True
 
-def read(path):
-    with open(path, encoding="utf-8") as f:
-        return f.read()
-
-
-def write(path, text):
-    with open(path, "w", encoding="utf-8") as f:
-        f.write(text)
+from port_names import main, read, write
 
 
 def parsed(edit):
@@ -90,10 +84,4 @@ def again():
 
 
 if __name__ == "__main__":
-    if sys.argv[1:] == ["--first"]:
-        first()
-    elif not sys.argv[1:]:
-        again()
-    else:
-        print(__doc__)
-        sys.exit(2)
+    main(__doc__, first, again)

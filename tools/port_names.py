@@ -146,11 +146,16 @@ def names():
     print(f"{len(to)} names")
 
 
-if __name__ == "__main__":
+def main(doc, before, after):
+    """Runs one of two: before the kit's port.py or after it."""
     if sys.argv[1:] == ["--first"]:
-        first()
+        before()
     elif not sys.argv[1:]:
-        names()
+        after()
     else:
-        print(__doc__)
+        print(doc)
         sys.exit(2)
+
+
+if __name__ == "__main__":
+    main(__doc__, first, names)
