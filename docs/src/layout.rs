@@ -120,6 +120,16 @@ const RATTLE: Syntax = Syntax {
     },
 };
 
+/// The fields are the variants, each with its number in the place of a type.
+const RATTLE_ENUM: Syntax = Syntax {
+    comment: "//",
+    begin: |code| between(code, "pub enum ", " {").map(String::from),
+    field: |code| {
+        let (name, number) = code.strip_suffix(',')?.split_once(" = ")?;
+        Some((name.into(), number.into()))
+    },
+};
+
 const C: Syntax = Syntax {
     comment: "/*",
     begin: |code| between(code, "typedef struct zxndma_", " {").map(String::from),
@@ -307,14 +317,20 @@ fn c_names(header: &str, begin: &str) -> Result<Names, String> {
     names(header, &format!("#define {}", begin), named)
 }
 
-/// The numbers that a Rattle source names for others.
+/// The numbers that a Rattle source names for others: its constants, and behind
+/// these the variants of its enums, whose names become capitals.
 fn rattle_names(source: &str) -> Result<Names, String> {
-    let named = |text: &str| {
+    let constant = |text: &str| {
         let (declared, number) = text.strip_suffix(';')?.split_once(" = ")?;
         let (name, _) = declared.split_once(": ")?;
         Some((name.into(), number.parse().ok()?))
     };
-    names(source, "pub const ", named)
+    let mut found = names(source, "pub const ", constant)?;
+    for (name, number) in declarations(source, &RATTLE_ENUM)?.into_iter().flat_map(|one| one.1) {
+        let number = number.parse().map_err(|_| format!("not understood: {}", number))?;
+        found.push((name.to_uppercase(), number));
+    }
+    Ok(found)
 }
 
 /// What the lines name that begin so. One that isn't understood is an error.

@@ -12,10 +12,9 @@ use lib.ListN.{length, take, drop, length-drop}
 use Rattle.rules.specs.Choice.{pick}
 use Rattle.rules.specs.Buffers.{Buffers}
 use Rattle.rules.proofs.Choice.{pick_both, pick_ap, pick_cases, pick_true}
-use Rattle.session.specs.Steps.{Said, Outcome, version_step, long_step, by_record, record_step, step_of}
+use Rattle.session.specs.Steps.{Session, Said, Outcome, version_step, long_step, by_record, record_step, step_of}
 use Rattle.runs.specs.Stepping.{line_in}
 use Rattle.runs.specs.Moving.{farther}
-use Rattle.session.specs.declared.step.Session.{Session}
 use Rattle.runs.proofs.Pieces.{step_stands}
 use Rattle.runs.proofs.Moving.{step_moves}
 use Rattle.bench.specs.Working.{Gathered, behind_line, gathered_once, lines_before, gathered_from, gathered}

@@ -12,10 +12,8 @@ use lib.ListN.{length, get_or}
 use Rattle.rules.specs.Buffers.{Buffers}
 use Rattle.rules.proofs.Choice.{pick_cases, pick_both}
 use Rattle.records.specs.BigEndian.{word}
-use Rattle.records.specs.Records.{none, short, behind, write_record, read_record, grant_record, memory_record, of_kind, record_at, long_length}
-use Rattle.session.specs.Steps.{Said, Outcome, version_step, long_step, by_record, record_step, step_of}
-use Rattle.records.specs.declared.Record.{Record}
-use Rattle.session.specs.declared.step.Session.{Session}
+use Rattle.records.specs.Records.{Record, none, short, behind, write_record, read_record, grant_record, memory_record, of_kind, record_at, long_length}
+use Rattle.session.specs.Steps.{Session, Said, Outcome, version_step, long_step, by_record, record_step, step_of}
 use Rattle.records.proofs.Standing.{long_there}
 
 -- a place behind bytes that are taken from place p on and are all at hand

@@ -6,18 +6,16 @@ use native.Mathlib.Omega.{arith}
 use mathlib.Core.Path.{◌≡◌, refl, sym, ap, subst, ◌∙◌}
 use mathlib.Core.Bool.{Bool}
 use mathlib.Core.List.{List, [], ◌++◌, append-nil, append_assoc}
-use borrow.Author.Tests.{eqb-true, eqb-false, eq-eqb, ne_eqb}
+use borrow.Author.Tests.{eqb-true, eqb-false, ne_eqb}
 use lib.Dec.{eqb}
 use lib.ListN.{length, take, drop, length-drop, take-append-drop, drop_of_length-le}
 use lib.Seq.{take_all, length-take-le, take-append-add, drop-append-add}
 use Rattle.rules.specs.Choice.{pick}
 use Rattle.rules.specs.Buffers.{Buffers}
-use Rattle.rules.proofs.Choice.{pick_ap, pick_true, pick_false, pick_cases}
+use Rattle.rules.proofs.Choice.{pick_ap, pick_false, pick_cases}
 use Rattle.clocking.specs.Answers.{borrowed}
-use Rattle.session.specs.Steps.{Outcome, step_of, outcome}
+use Rattle.session.specs.Steps.{Session, Step, Outcome, step_of, outcome}
 use Rattle.runs.specs.Stepping.{line_in}
-use Rattle.session.specs.declared.step.Session.{Session}
-use Rattle.session.specs.declared.step.Step.{Step}
 use Rattle.records.proofs.Choosing.{same}
 use Rattle.bench.specs.Working.{step_behind, Gathered, behind_line, gathered_once, lines_before, gathered_from, gathered, AllGathered, Left, left, left_by}
 use Rattle.bench.proofs.Taking.{Taken, step_takes}
@@ -38,7 +36,7 @@ module _ (filled : ℕ) (s : Session) (xs : List ℕ) (have p : ℕ) (ended : Bo
 
   pub behind_lines :
       {r : Step} {line m l : List ℕ}
-      → (outcome r line m l ≡ step_of s (take (have - 0) xs) p ended lent b) × (r.length ≤ length lent)
+      → (outcome r line m l ≡ step_of s (take have xs) p ended lent b) × (r.length ≤ length lent)
       → (outcome r (take filled out ++ (line ++ drop (length out - filled) (drop filled out))) m l ≡ step_behind filled s (take have xs) p ended out b) × (filled + r.length ≤ length out)
   unfolding step_behind
   behind_lines {r} {line} {m} {l} e = (
@@ -46,17 +44,11 @@ module _ (filled : ℕ) (s : Session) (xs : List ℕ) (have p : ℕ) (ended : Bo
         ∙ ap (λ (x : List ℕ). outcome r (take filled out ++ x) m l) (append-nil line)
         ∙ ap
         (λ (o : Outcome). record { said = record { step = o.said.step; line = take filled out ++ o.said.line }; buffers = o.buffers })
-        (e.0
-        ∙ ap (λ (n : ℕ). step_of s (take n xs) p ended lent b) (let z : have - 0 ≡ have = omega arith in z)
-        ∙ ap (λ (x : List ℕ). step_of s (take have xs) p ended x b) (tail_whole filled out)),
+        (e.0 ∙ ap (λ (x : List ℕ). step_of s (take have xs) p ended x b) (tail_whole filled out)),
     omega (arith, e.1, length-drop filled out, ap length (tail_whole filled out)),
   )
 
 -- ---- what is still to come
-
--- the steps that can come from a place on, at most
-unfoldable pub to_go : List ℕ → ℕ → ℕ → ℕ
-to_go xs progress p = pick (eqb progress 0) (suc (length xs - p)) 0
 
 -- the same with other lines
 abbrev pub with_lines : Gathered → List ℕ → Gathered
@@ -172,37 +164,37 @@ module _ (xs : List ℕ) (ended : Bool) where
     going_start =
         record { all = refl; fits = omega arith; output_size = refl; memory_size = refl; latches_size = refl }
 
-    module _ {output memory latches : List ℕ} {s : Session} {p filled progress : ℕ} (w : Going output memory latches s p filled progress) where
-      module _ {r : Step} {o m l : List ℕ} (goes : progress ≡ 0) (e : (outcome r o m l ≡ step_behind filled s xs p ended output (borrowed memory latches)) × (filled + r.length ≤ length output)) where
-        pub going_more : length o ≡ length output → length m ≡ length memory → length l ≡ length latches → Going o m l r.session r.next (filled + r.length) r.progress
+    module _ {output memory latches : List ℕ} {s : Session} {p filled : ℕ} (w : Going output memory latches s p filled 0) where
+      module _ {r : Step} {o m l : List ℕ} (e : (outcome r o m l ≡ step_behind filled s xs p ended output (borrowed memory latches)) × (filled + r.length ≤ length output)) where
+        pub going_on : length o ≡ length output → length m ≡ length memory → length l ≡ length latches → Going o m l r.session r.next (filled + r.length) r.progress
         unfolding ahead pick step_behind
-        going_more h i j =
+        going_on h i j =
             record {
               all =
                   ap (λ (x : Outcome). all_of (filled + x.said.step.length) x) e.0
                   ∙ behind_first filled s p output (borrowed memory latches) w.fits
-                  ∙ subst (λ (k : ℕ). lines_before (take filled output) (ahead k s p (drop filled output) (borrowed memory latches)) ≡ gathered s₀ xs p₀ ended output₀ (borrowed memory₀ latches₀)) goes w.all;
+                  ∙ w.all;
               fits = omega (arith, e.1);
               output_size = h ∙ w.output_size;
               memory_size = i ∙ w.memory_size;
               latches_size = j ∙ w.latches_size;
             }
 
-        -- the place comes nearer to the end of the bytes at hand, or the loop ends
-        pub going_less : to_go xs r.progress r.next < to_go xs progress p
-        unfolding to_go step_behind
-        going_less = let
-            all : to_go xs progress p ≡ suc (length xs - p) = pick_true _ _ _ (eq-eqb progress 0 goes)
-            in
-            pick_cases (λ (k : ℕ). k < to_go xs progress p) (eqb r.progress 0) _ _
-            (λ q. let
+        -- where the steps go on, the place comes nearer to the end of the bytes at hand
+        pub going_less : r.progress ≡ 0 → length xs - r.next < length xs - p
+        unfolding step_behind
+        going_less q = let
             t : Taken xs p r.next =
             subst (λ (x : Outcome). x.said.step.progress ≡ 0 → Taken xs p x.said.step.next) (sym e.0)
             (step_takes s xs p ended (drop filled output) (borrowed memory latches))
-            (eqb-true r.progress 0 q)
+            q
             in
-            omega (arith, all))
-            (λ q. omega (arith, all))
+            omega arith
+
+    module _ {output memory latches : List ℕ} {s : Session} {p filled progress : ℕ} (w : Going output memory latches s p filled progress) where
+      -- the next step is made from there
+      pub going_more : progress ≡ 0 → Going output memory latches s p filled 0
+      going_more goes = subst (Going output memory latches s p filled) goes w
 
       -- the answer, with the lines up to a place and the rest of the slice behind them
       abbrev answer : ℕ → List ℕ → Left

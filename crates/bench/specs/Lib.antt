@@ -1,4 +1,6 @@
 pub mod Buffered
+pub mod State
 pub mod Working
 pub mod Turning
+pub mod Answered
 pub mod Pieces

@@ -3,8 +3,7 @@
 -- Assumes nothing.
 use Rattle.std.specs.Prelude.{ℕ, ◌+◌, ◌≡◌, Bool, false, List, ◌++◌, drop}
 use Rattle.rules.specs.Buffers.{Buffers}
-use Rattle.session.specs.Steps.{needs_bytes}
-use Rattle.session.specs.declared.step.Session.{Session}
+use Rattle.session.specs.Steps.{Session, needs_bytes}
 use Rattle.bench.specs.Working.{Gathered, lines_before, gathered}
 
 -- what steps come to, with a next place that lies so much farther on

@@ -5,10 +5,10 @@
 use Rattle.std.specs.Prelude.{ℕ, ◌+◌, ◌≤◌, ◌<◌, ◌≡◌, Bool, true, false, List, ◌++◌, eqb, length, take, replicate}
 use Rattle.rules.specs.Choice.{pick}
 use Rattle.rules.specs.Buffers.{Buffers}
-use Rattle.session.specs.Steps.{needs_bytes, is_over, session_at_start}
+use Rattle.session.specs.Steps.{needs_bytes, is_over}
 use Rattle.bench.specs.Buffered.{at_hand, not_taken}
 use Rattle.bench.specs.Working.{Gathered, gathered_in}
-use Rattle.bench.specs.declared.State.{State}
+use Rattle.bench.specs.State.{State, state_at_start}
 
 -- the front of the output buffer, up to `filled`, are the lines of all the steps from where the program is, with an output
 -- buffer of this length, whatever it held before them, and whatever memory and latches held
@@ -77,7 +77,7 @@ pub record Holds : Type 0 where
 abbrev pub holds_at_start : Buffers (List ℕ) → Holds
 holds_at_start b =
     record {
-      state = record { session = session_at_start; at = 0; have = 0; ended = false; stopped = false };
+      state = state_at_start;
       input = replicate 65536 0;
       output = replicate 65536 0;
       buffers = b;

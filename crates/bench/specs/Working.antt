@@ -3,12 +3,10 @@
 use Rattle.std.specs.Prelude.{ℕ, zero, suc, ◌+◌, ◌≡◌, Bool, List, ◌++◌, eqb, length, take, drop}
 use Rattle.rules.specs.Choice.{pick}
 use Rattle.rules.specs.Buffers.{Buffers}
-use Rattle.session.specs.Steps.{goes_on, Outcome, step_of}
+use Rattle.session.specs.Steps.{Session, goes_on, Outcome, step_of}
 use Rattle.runs.specs.Stepping.{line_in}
-use Rattle.session.specs.declared.step.Session.{Session}
 use Rattle.bench.specs.Buffered.{at_hand}
-use Rattle.bench.specs.declared.State.{State}
-use Rattle.bench.specs.declared.Worked.{Worked}
+use Rattle.bench.specs.State.{State, Worked}
 
 -- a step whose line goes behind the lines that have gathered: what lies before stays
 unfoldable pub step_behind : ℕ → Session → List ℕ → ℕ → Bool → List ℕ → Buffers (List ℕ) → Outcome
@@ -78,7 +76,7 @@ pub record AllGathered (s : Session) (xs : List ℕ) (p : ℕ) (ended : Bool) (o
 abbrev pub gathered_in : State → List ℕ → List ℕ → Buffers (List ℕ) → Gathered
 gathered_in s input output b = gathered s.session (at_hand s.have input) s.at s.ended output b
 
--- the answer in code, with the slices as they are left
+-- where it is, in the numbers of the definitions, with the slices as they are left
 pub record Left : Type 0 where
   pub worked : Worked
   pub output : List ℕ

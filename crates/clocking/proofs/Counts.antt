@@ -1,12 +1,15 @@
 -- Of counts whose sum has room all clocks are counted.
 -- Assumes nothing.
-use Prim.Native.Nat.{ℕ, ◌+◌, ◌*◌, ◌-◌, ◌≤◌}
+use Prim.Native.Nat.{ℕ, ◌+◌, ◌*◌, ◌-◌, ◌≤◌, ◌<◌}
 use native.Mathlib.Omega.{arith}
 use native.Mathlib.Nat.{mul-add}
 use mathlib.Core.Path.{◌≡◌, ap, ◌∙◌}
-use borrow.Author.Tests.{le-leb}
+use Rattle.std.specs.Prelude.{Option, Some, None, SomeIff, unwrap_or}
+use borrow.Author.Tests.{lt-leb, le-leb}
+use Rattle.rules.specs.Choice.{pick}
 use Rattle.rules.specs.Validity.{total, most64}
-use Rattle.rules.specs.Clock.{Kind, bus_clock, held_clock, cpu_clock, counted_by, wait_kind}
+use Rattle.rules.specs.Clock.{bus_clock, held_clock, cpu_clock, counted_by, wait_kind}
+use Rattle.rules.specs.declared.at_once.Kind.{Kind}
 use Rattle.rules.specs.WholeSlots.{slots_counted}
 use Rattle.rules.specs.declared.Slot.{Slot}
 use Rattle.rules.specs.declared.Clocks.{Clocks}
@@ -37,3 +40,9 @@ slots_counted_all k s x f h =
     let b : counted_within bus_clock (k * s.bus) x ≡ counted_by bus_clock (k * s.bus) x = counted_all bus_clock (k * s.bus) x (omega arith) in
     ap (counted_within (wait_kind s.burst) (k * (s.length - s.bus))) b
     ∙ counted_all (wait_kind s.burst) (k * (s.length - s.bus)) (counted_by bus_clock (k * s.bus) x) (omega (arith, total_counted bus_clock (k * s.bus) x))
+
+-- the sum where it fits 64 bits, else the count
+pub sum_or_count : (count n : ℕ) (r : Option ℕ) → n < 18446744073709551616 → SomeIff r (count + n < 18446744073709551616) (count + n) → unwrap_or r count ≡ added count n
+unfolding added pick
+sum_or_count count n None f g = simp (lt-leb count (most64 - n) (omega (arith, f, g)))
+sum_or_count count n (Some x) f g = g.1 ∙ simp (le-leb count (most64 - n) (omega (arith, g.0)))

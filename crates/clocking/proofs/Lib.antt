@@ -1,5 +1,4 @@
 pub mod Counts
-pub mod Buffers
 pub mod Spans
 pub mod Stretches
 pub mod WholeSlots

@@ -17,7 +17,7 @@ use Rattle.rules.specs.Stretches.{least, stretch_rest}
 use Rattle.rules.specs.declared.Place.{Place}
 use Rattle.rules.specs.declared.Slot.{Slot}
 use Rattle.rules.specs.declared.Core.{Core}
-use Rattle.rules.specs.declared.Span.{Span}
+use Rattle.rules.specs.declared.at_once.Span.{Span}
 use Rattle.rules.proofs.Choice.{pick_true, pick_cases}
 use Rattle.rules.proofs.Validity.{valid_bounded}
 use Rattle.rules.proofs.Spans.{span_none}

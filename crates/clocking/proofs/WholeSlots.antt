@@ -1,9 +1,8 @@
 -- Whole slots: what their number and their clocks are, and bytes on the way. After i of k bytes the ports are as many steps
 -- further, and the buffers are as after i bytes one by one; a stride is a step, since pointers stay below 65,536.
 -- Assumes nothing.
-use Prim.Native.Nat.{ℕ, ◌+◌, ◌*◌, ◌/◌, ◌%◌, ◌≤◌, ◌<◌}
+use Prim.Native.Nat.{ℕ, ◌+◌, ◌/◌, ◌%◌, ◌≤◌, ◌<◌}
 use native.Mathlib.Omega.{arith}
-use native.Mathlib.Nat.{mul-le-mul}
 use native.Mathlib.Numerals.{add-one}
 use mathlib.Core.Path.{◌≡◌, refl, sym, ◌∙◌, ap}
 use mathlib.Core.Bool.{Bool, true}
@@ -23,8 +22,7 @@ use Rattle.rules.specs.declared.Core.{Core}
 use Rattle.rules.proofs.Choice.{pick_true}
 use Rattle.rules.proofs.Ports.{stepped_by_below, stepped_stride}
 use Rattle.rules.proofs.WholeSlots.{AtSlotStart, at_slot_start_lem}
-use Rattle.clocking.specs.Answers.{borrowed, BytesMoved}
-use Rattle.clocking.proofs.Buffers.{AsLong, transferred_lengths}
+use Rattle.clocking.specs.Answers.{BytesMoved}
 
 -- ---- how many, and of how many clocks
 
@@ -41,27 +39,20 @@ module _ (c : Core) {starts : Bool} (e : starts ≡ at_slot_start c) (t : starts
   slots_at_start budget s n x =
       x ∙ (λ i. least (budget / (s i).length) (n i)) ∙ sym (pick_true _ _ _ (sym e ∙ t))
 
--- a product fits 64 bits
-pub times_fit : (k n : ℕ) → k < 4294967296 → n < 65536 → k * n < 18446744073709551616
-times_fit k n h l =
-    let x : k ≤ 4294967295 = omega arith in
-    let y : n ≤ 65535 = omega arith in
-    let z : k * n ≤ 4294967295 * 65535 = mul-le-mul x y in omega arith
-
 -- ---- bytes on the way
 
-pub record Carrying (c : Core) (m₀ l₀ : List ℕ) (k : ℕ) (m l : List ℕ) (a b : Port) (i : ℕ) : Type 0 where
+pub record Carrying (c : Core) (k : ℕ) (before now : Buffers (List ℕ)) (a b : Port) (i : ℕ) : Type 0 where
   pub within : i ≤ k
   pub most : k < 4294967296
   pub in_a : c.a.pointer < 65536
   pub in_b : c.b.pointer < 65536
   pub port_a : a ≡ advanced_by i c.a
   pub port_b : b ≡ advanced_by i c.b
-  pub buffers : borrowed m l ≡ transferred flat i c (borrowed m₀ l₀)
+  pub buffers : now ≡ transferred flat i c before
 
-pub carrying_start : (c : Core) (m l : List ℕ) (k : ℕ) → k < 4294967296 → c.a.pointer < 65536 → c.b.pointer < 65536 → Carrying c m l k m l c.a c.b 0
+pub carrying_start : (c : Core) (x : Buffers (List ℕ)) (k : ℕ) → k < 4294967296 → c.a.pointer < 65536 → c.b.pointer < 65536 → Carrying c k x x c.a c.b 0
 unfolding transferred stepped_by
-carrying_start c m l k h f g = record { within = omega arith; most = h; in_a = f; in_b = g; port_a = refl; port_b = refl; buffers = refl }
+carrying_start c x k h f g = record { within = omega arith; most = h; in_a = f; in_b = g; port_a = refl; port_b = refl; buffers = refl }
 
 port_more : (i : ℕ) (p : Port) → advanced (advanced_by i p) ≡ advanced_by (i + 1) p
 unfolding stepped_by
@@ -84,14 +75,14 @@ places : (first : Bool) {p q p' q' : Port} → p ≡ p' → q ≡ q' → pick fi
 places first f g = λ n. pick first (place_of (f n)) (place_of (g n))
 
 pub carrying_more :
-    {c : Core} {m₀ l₀ m l m' l' : List ℕ} {k i : ℕ} {a b a' b' : Port} {from to : Place} {x y : ℕ}
-    → Carrying c m₀ l₀ k m l a b i → i < k → x ≡ stride c.a.step → y ≡ stride c.b.step
+    {c : Core} {before now later : Buffers (List ℕ)} {k i : ℕ} {a b a' b' : Port} {from to : Place} {x y : ℕ}
+    → Carrying c k before now a b i → i < k → x ≡ stride c.a.step → y ≡ stride c.b.step
     → from ≡ pick c.control.forward (place_of a) (place_of b)
-    → to ≡ pick c.control.forward (place_of b) (place_of a) → borrowed m' l' ≡ transfer flat from to (borrowed m l)
+    → to ≡ pick c.control.forward (place_of b) (place_of a) → later ≡ transfer flat from to now
     → a' ≡ with_pointer ((a.pointer + x) % 65536) a → b' ≡ with_pointer ((b.pointer + y) % 65536) b
-    → Carrying c m₀ l₀ k m' l' a' b' (i + 1)
+    → Carrying c k before later a' b' (i + 1)
 unfolding source destination
-carrying_more {c} {m₀} {l₀} {i = i} g h u v f t e p q =
+carrying_more {c} {before} {i = i} g h u v f t e p q =
     record {
       within = omega arith;
       most = g.most;
@@ -102,18 +93,15 @@ carrying_more {c} {m₀} {l₀} {i = i} g h u v f t e p q =
       buffers =
           e
           ∙ (λ j. transfer flat ((f ∙ places c.control.forward g.port_a g.port_b) j) ((t ∙ places c.control.forward g.port_b g.port_a) j) (g.buffers j))
-          ∙ transferred_more i c (borrowed m₀ l₀);
+          ∙ transferred_more i c before;
     }
 
-pub carrying_lengths : {c : Core} {m₀ l₀ m l : List ℕ} {k i : ℕ} {a b : Port} → Carrying c m₀ l₀ k m l a b i → AsLong (borrowed m l) (borrowed m₀ l₀)
-carrying_lengths {c} {m₀} {l₀} {i = i} g = rw g.buffers (transferred_lengths i c (borrowed m₀ l₀))
-
 -- all k bytes have moved
-pub carrying_end : {c : Core} {m₀ l₀ m l : List ℕ} {k i : ℕ} {a b : Port} → Carrying c m₀ l₀ k m l a b i → k ≤ i → BytesMoved c k (borrowed m₀ l₀) (borrowed m l) a b
-carrying_end {c} {m₀} {l₀} {k = k} {i} g h =
+pub carrying_end : {c : Core} {before now : Buffers (List ℕ)} {k i : ℕ} {a b : Port} → Carrying c k before now a b i → k ≤ i → BytesMoved c k before now a b
+carrying_end {c} {before} {k = k} {i} g h =
     let z : i ≡ k = omega (arith, g.within) in
     record {
       a = g.port_a ∙ ap (λ (n : ℕ). advanced_by n c.a) z;
       b = g.port_b ∙ ap (λ (n : ℕ). advanced_by n c.b) z;
-      buffers = g.buffers ∙ ap (λ (n : ℕ). transferred flat n c (borrowed m₀ l₀)) z;
+      buffers = g.buffers ∙ ap (λ (n : ℕ). transferred flat n c before) z;
     }

@@ -1,12 +1,12 @@
 -- The answers of this crate's functions, as the rules name them.
 -- Assumes nothing.
-use Rattle.std.specs.Prelude.{ℕ, ◌+◌, ◌*◌, ◌-◌, ◌<◌, ◌≡◌, true, false, List, leb, ltb}
+use Rattle.std.specs.Prelude.{ℕ, ◌+◌, ◌*◌, ◌-◌, ◌<◌, ◌≡◌, Bool, true, false, Option, Some, None, List, leb, ltb}
 use Rattle.rules.specs.Choice.{pick}
 use Rattle.rules.specs.Ports.{advanced_by}
 use Rattle.rules.specs.Validity.{most64}
-use Rattle.rules.specs.Clock.{Kind, bus_clock, with_count, Clock, wait_kind}
+use Rattle.rules.specs.Clock.{bus_clock, with_count, Clock, wait_kind}
+use Rattle.rules.specs.declared.at_once.Kind.{Kind}
 use Rattle.rules.specs.Buffers.{Buffers, flat}
-use Rattle.rules.specs.Spans.{kind_code}
 use Rattle.rules.specs.Slots.{slot_of}
 use Rattle.rules.specs.Stretches.{quiet, elapsed_by}
 use Rattle.rules.specs.WholeSlots.{transferred}
@@ -15,11 +15,10 @@ use Rattle.rules.specs.declared.Slot.{Slot}
 use Rattle.rules.specs.declared.Clocks.{Clocks}
 use Rattle.rules.specs.declared.Core.{Core}
 use Rattle.clocking.specs.declared.clock.Tick.{Tick}
-use Rattle.clocking.specs.declared.stretch.Wait.{Wait}
 
 -- a clock without what the counter held
 abbrev pub tick : Clock → Tick
-tick x = record { kind = kind_code x.kind; moves = x.moves; next = x.next }
+tick x = record { kind = x.kind; moves = x.moves; next = x.next }
 
 -- the two buffers that a caller lends
 abbrev pub borrowed : List ℕ → List ℕ → Buffers (List ℕ)
@@ -36,12 +35,22 @@ pub record MayRun (c : Core) (budget : ℕ) : Type 0 where
   pub elapsed : c.slot.elapsed < 65535
   pub some : 0 < budget
 
+-- a slot, and whether clocks of it are a wait
+pub record Wait : Type 0 where
+  pub quiet : Bool
+  pub slot : Slot
+
 -- n clocks of the slot that runs or begins, if they end before its present stretch does
 unfoldable pub wait_answer : ℕ → Core → Wait
 wait_answer n c =
     pick (quiet n (slot_of c))
     (record { quiet = true; slot = elapsed_by n (slot_of c) })
     (record { quiet = false; slot = slot_of c })
+
+-- the slot after a wait, if there is one; else the slot stays as it is
+abbrev pub wait_of : Slot → Option Slot → Wait
+wait_of s (Some t) = record { quiet = true; slot = t }
+wait_of s None = record { quiet = false; slot = s }
 
 -- a count with n more; where they would not fit 64 bits it stays
 unfoldable pub added : ℕ → ℕ → ℕ

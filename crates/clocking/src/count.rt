@@ -1,46 +1,25 @@
 // Counting clocks.
 ghost use Rattle.std.specs.Prelude.{◌≡◌};
-ghost use Rattle.rules.specs.Spans.{kind_of};
 ghost use Rattle.clocking.specs.Answers.{added, counted_within};
 
-use parts::valid;
-use rules::Clocks;
+use rules::{Clocks, Kind};
 
 // A count with `n` more; where they would not fit it stays.
 fn more(count: u64, n: u64) -> u64
     ensures { result ≡ added count n }
 {
-    if count <= valid::MOST - n {
-        return count + n;
-    }
-    count
+    count.checked_add(n).unwrap_or(count)
 }
 
 // `n` clocks of one kind added to its count, which stays where they would not fit.
-pub fn add(kind: u8, n: u32, k: Clocks) -> Clocks
-    ensures { result ≡ counted_within (kind_of kind) n k }
+#[tactic(auto, unfolding(crate::specs::Answers::counted_within))]
+pub fn add(kind: Kind, n: u64, mut k: Clocks) -> Clocks
+    ensures { result ≡ counted_within kind n k }
 {
-    add_all(kind, n as u64, k)
-}
-
-// The same for a larger number.
-pub(crate) fn add_all(kind: u8, clocks: u64, k: Clocks) -> Clocks
-    ensures { result ≡ counted_within (kind_of kind) clocks k }
-{
-    if kind == rules::BUS {
-        let bus = more(k.bus, clocks);
-        let mut next = k;
-        next.bus = bus;
-        return next;
+    match kind {
+        Kind::Bus => k.bus = more(k.bus, n),
+        Kind::Held => k.held = more(k.held, n),
+        Kind::Cpu => k.cpu = more(k.cpu, n),
     }
-    if kind == rules::HELD {
-        let held = more(k.held, clocks);
-        let mut next = k;
-        next.held = held;
-        return next;
-    }
-    let cpu = more(k.cpu, clocks);
-    let mut next = k;
-    next.cpu = cpu;
-    next
+    k
 }

@@ -6,60 +6,53 @@ ghost use Rattle.clocking.specs.Answers.{room_for, MayRun};
 
 use crate::{clock, place, stretch};
 use parts::slot;
-use rules::{Core, Span};
+use rules::{Core, Kind, Span};
 
 // The clocks that a span may take of a budget.
+#[tactic(auto, unfolding(crate::specs::Answers::room_for, rules::specs::Choice::pick))]
 fn room_for(c: Core, budget: u32) -> u32
     ensures { result ≡ room_for c budget }
 {
-    if c.block.counter < 4294967295 {
-        if c.slot.elapsed < 65535 {
-            return budget;
-        }
-        return 0;
+    if c.block.counter < u32::MAX && c.slot.elapsed < u16::MAX {
+        budget
+    } else {
+        0
     }
-    0
 }
 
 // Clocks of the processor, which leave the core as it is.
 fn cpu_span(clocks: u32, c: Core) -> Span
     ensures { result ≡ span cpu_clock clocks false c c }
 {
-    let from = place::source_of(c);
-    let to = place::destination_of(c);
     Span {
-        kind: rules::CPU,
+        kind: Kind::Cpu,
         clocks,
         moves: false,
-        from,
-        to,
+        from: place::source_of(c),
+        to: place::destination_of(c),
         next: c,
     }
 }
 
 // The next span of a slot that runs or begins.
-fn slot_span(c: Core, budget: u32) -> Span
+fn slot_span(mut c: Core, budget: u32) -> Span
     requires { MayRun c budget }
     ensures { IsLongestSpan c budget result }
 {
-    let from = place::source_of(c);
-    let to = place::destination_of(c);
     let slot = slot::slot_of(c);
     let rest = stretch::stretch_rest(slot);
-    let clocks = stretch::least(budget, rest);
-    let some = clocks as u16;
-    let last = c.slot.elapsed + some;
-    let mut running = c;
-    running.slot = slot;
-    let tick = clock::slot_clock(last, running);
-    let next = tick.next;
+    let clocks = budget.min(rest);
+    // A stretch's clocks fit 16 bits, as its slot's length does.
+    let last = c.slot.elapsed + clocks as u16;
+    c.slot = slot;
+    let tick = clock::slot_clock(last, c);
     Span {
         kind: tick.kind,
         clocks,
         moves: tick.moves,
-        from,
-        to,
-        next,
+        from: place::source_of(c),
+        to: place::destination_of(c),
+        next: tick.next,
     }
 }
 
@@ -69,6 +62,7 @@ pub fn next_span(c: Core, budget: u32) -> Span
     ensures { IsLongestSpan c (room_for c budget) result }
 {
     let room = room_for(c, budget);
+    // Early returns, here and in clock.rt: one choice between answers with a core takes up to 8 instructions more in a grant.
     if room == 0 {
         return cpu_span(0, c);
     }

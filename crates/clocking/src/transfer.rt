@@ -2,41 +2,56 @@
 ghost use Rattle.std.specs.Prelude.{◌≡◌};
 ghost use Rattle.rules.specs.Buffers.{flat, byte_at, transfer};
 ghost use Rattle.rules.specs.World.{buffers_after};
-ghost use Rattle.clocking.specs.Answers.{borrowed};
+ghost use Rattle.clocking.specs.Lent.{buffers_of, SameLent};
 
 use parts::bytes;
 use rules::Place;
 
-// The byte at a place.
-fn load(memory: &[u8], latches: &[u8], p: Place) -> u8
-    ensures { result ≡ byte_at flat p (borrowed memory.now latches.now) }
-{
-    let at = p.address as usize;
-    if p.io {
-        return bytes::byte_at(latches, at);
-    }
-    bytes::byte_at(memory, at)
+// The memory and the I/O latches that a caller lends. That the same two slices are still lent is a fact of before and after,
+// of which no invariant speaks: each function that moves bytes promises `SameLent`.
+#[derive(Drop)]
+pub struct Lent<'a> {
+    pub memory: &'a mut [u8],
+    pub latches: &'a mut [u8],
 }
 
-// One byte moves from one place to the other.
-pub(crate) fn move_byte(memory: &mut [u8], latches: &mut [u8], from: Place, to: Place)
-    ensures { borrowed memory.new latches.new ≡ transfer flat from to (borrowed memory.old latches.old) }
-{
-    let byte = load(memory, latches, from);
-    let at = to.address as usize;
-    if to.io {
-        bytes::put(latches, at, byte);
-        return;
+impl Lent<'_> {
+    // The byte at a place.
+    #[tactic(auto, unfolding(rules::specs::Buffers::byte_at, rules::specs::Choice::pick))]
+    fn load(&self, p: Place) -> u8
+        ensures { result ≡ byte_at flat p (buffers_of self.now) }
+    {
+        let at = usize::from(p.address);
+        if p.io {
+            bytes::byte_at(self.latches, at)
+        } else {
+            bytes::byte_at(self.memory, at)
+        }
     }
-    bytes::put(memory, at, byte);
-}
 
-// The byte moves where `moves` holds.
-pub fn move_if(moves: bool, memory: &mut [u8], latches: &mut [u8], from: Place, to: Place)
-    ensures { borrowed memory.new latches.new ≡ buffers_after flat moves from to (borrowed memory.old latches.old) }
-{
-    if moves {
-        move_byte(memory, latches, from, to);
-        return;
+    // One byte moves from one place to the other.
+    #[tactic(auto, unfolding(rules::specs::Buffers::put, rules::specs::Choice::pick))]
+    pub(crate) fn move_byte(&mut self, from: Place, to: Place)
+        ensures same { SameLent self.old self.new }
+        ensures moved { buffers_of self.new ≡ transfer flat from to (buffers_of self.old) }
+    {
+        let byte = self.load(from);
+        let at = usize::from(to.address);
+        if to.io {
+            bytes::put(self.latches, at, byte);
+        } else {
+            bytes::put(self.memory, at, byte);
+        }
+    }
+
+    // The byte moves where `moves` holds: a flag beside the two places, as `buffers_after` takes them.
+    #[tactic(auto, unfolding(rules::specs::World::buffers_after, rules::specs::Choice::pick))]
+    pub fn move_if(&mut self, moves: bool, from: Place, to: Place)
+        ensures same { SameLent self.old self.new }
+        ensures moved { buffers_of self.new ≡ buffers_after flat moves from to (buffers_of self.old) }
+    {
+        if moves {
+            self.move_byte(from, to);
+        }
     }
 }

@@ -7,10 +7,9 @@ use mathlib.Core.List.{List}
 use lib.ListN.{get_or, length}
 use Rattle.examples.specs.Slips.{saved_copy, NotSaved, NotWhole, NotModeByRead, NotAtEveryCore, NotAtLongCycles, NotInSlowSlot, NotWithoutContinue, NotWithoutZero, NotPassed, NotAnew}
 use Rattle.examples.specs.ShortLists.{sent}
-use Rattle.rules.specs.Clock.{Clock}
+use Rattle.rules.specs.Clock.{cpu_clock, Clock}
 use Rattle.rules.specs.World.{System}
-use Rattle.rules.specs.Spans.{kind_code}
-use Rattle.rules.specs.Accounts.{bytes_noted, zeroed_noted}
+use Rattle.rules.specs.Accounts.{of_kind, bytes_noted, zeroed_noted}
 use Rattle.rules.specs.Recheck.{clock_with_recheck, first_clock_with_recheck}
 use Rattle.rules.specs.At28.{slot_length_at28, valid_length_at28, running_slot_at28, valid_slot_at28, valid_core_at28}
 use Rattle.examples.specs.RowsOpened.{rows_opened}
@@ -36,7 +35,7 @@ unfolding rows_opened clock_with_recheck first_clock_with_recheck
 not_at_every_core =
     record {
       invalid = refl;
-      clocks = λ e. let z : ◌≡◌ {A = ℕ} 2 0 = ap (λ (x : Clock). kind_code x.kind) e in omega arith;
+      clocks = λ e. let z : ◌≡◌ {A = ℕ} 1 0 = ap (λ (x : Clock). of_kind cpu_clock x.kind) e in omega arith;
       systems = λ e. let z : ◌≡◌ {A = ℕ} 0 1 = ap (λ (s : System (List ℕ)). s.clocks.bus) e in omega arith;
       refused = refl;
     }

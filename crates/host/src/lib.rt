@@ -1,4 +1,5 @@
 // The device's calls by value, for C and for Rust. Each hands what it is given to the function that it wraps, and answers the same.
+// Refusals and warnings are numbers here, since no enum crosses to C.
 #![tactic(auto)]
 
 ghost use Rattle.std.specs.Prelude.{◌≡◌};

@@ -1,6 +1,7 @@
 // The device's calls for hosts that keep their devices in a place of their own, for C and for Rust: each borrows a device,
 // hands a copy of it to the call by value, and puts what that call hands back in its place. A refused call leaves the device as
-// it was. Core and clock counts are put back one by one; what lies between them in memory has no meaning.
+// it was.
+// Refusals and warnings are numbers here, since no enum crosses to C.
 #![tactic(auto)]
 
 ghost use Rattle.std.specs.Prelude.{◌≡◌};
@@ -12,14 +13,21 @@ ghost use Rattle.lent.specs.Answers.{as_write_answer, as_read_answer, as_speed_a
 use lent::{Given, Written};
 use zxndma::Device;
 
+// A device is put in a place, core and clock counts one by one: what lies between them in memory has no meaning.
+fn put_back(place: &mut Device, device: Device)
+    ensures { place.new ≡ device }
+{
+    place.core = device.core;
+    place.clocks = device.clocks;
+}
+
 // A byte is written to a port. Refused with 1, 2 or 3.
 #[unsafe(no_mangle)]
 pub extern "C" fn zxndma_write_in_place(device: &mut Device, port: u16, byte: u8) -> Written
     ensures { as_write_answer result device.new ≡ write_answer (write_reply device.old.core device.old.clocks port byte) }
 {
     let answer = (*device).write(port, byte);
-    device.core = answer.device.core;
-    device.clocks = answer.device.clocks;
+    put_back(device, answer.device);
     Written {
         number: answer.number,
         warning: answer.warning,
@@ -32,8 +40,7 @@ pub extern "C" fn zxndma_read_in_place(device: &mut Device, port: u16) -> Given
     ensures { as_read_answer result device.new ≡ read_answer (read_reply device.old.core device.old.clocks port) }
 {
     let answer = (*device).read(port);
-    device.core = answer.device.core;
-    device.clocks = answer.device.clocks;
+    put_back(device, answer.device);
     Given {
         number: answer.number,
         byte: answer.byte,
@@ -46,8 +53,7 @@ pub extern "C" fn zxndma_set_speed_in_place(device: &mut Device, code: u8) -> u8
     ensures { as_speed_answer result device.new ≡ speed_answer (speed_reply device.old.core device.old.clocks code) }
 {
     let answer = (*device).set_speed(code);
-    device.core = answer.device.core;
-    device.clocks = answer.device.clocks;
+    put_back(device, answer.device);
     answer.number
 }
 
@@ -62,7 +68,6 @@ pub extern "C" fn zxndma_grant_in_place(
     ensures { grant_answer (as_grant_answer result device.new) memory.new latches.new ≡ grant flat (system_of device.old memory.old latches.old) clocks }
 {
     let answer = (*device).grant(memory, latches, clocks);
-    device.core = answer.device.core;
-    device.clocks = answer.device.clocks;
+    put_back(device, answer.device);
     answer.number
 }

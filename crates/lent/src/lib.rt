@@ -1,5 +1,6 @@
 // What the calls in place answer beside the device, which stays where it is. This crate has no function: its definitions put answer
-// and device together, and its theorems say what the promises of these calls come to.
+// and device together, and its theorems say what the promises of these calls come to. Refusals and warnings are numbers here, since
+// no enum crosses to C.
 #![tactic(auto)]
 
 // What a port write answers beside the device.

@@ -1,94 +1,48 @@
--- Runs of bytes put into a list one behind the other are their concatenation put, and what was put at its front is what is
--- taken from there. A number has no more digits than are allowed, so that every line has room in 72 bytes. By kind and warning
--- a line has the mark or is the one of before.
+-- A line at the front of a slice is its bytes and the rest of the slice, and what was put there is what is taken from there. The
+-- library's digits of a number are those of the definition; a number has no more of them than are allowed, so that every line
+-- has room in 72 bytes. By kind and warning a line has the mark or is the one of before.
 -- Assumes nothing.
-use Prim.Native.Nat.{ℕ, zero, suc, ◌+◌, ◌-◌, ◌/◌, ◌%◌, ◌≤◌, ◌<◌}
-use native.Mathlib.Omega.{arith}
-use native.Mathlib.Numerals.{add-one}
-use mathlib.Core.Path.{◌≡◌, refl, sym, ap, ◌∙◌}
-use mathlib.Core.List.{List, [], ◌∷◌, ◌++◌, append_assoc, append-nil}
+use Rattle.std.proofs.Common.{◌≡◌, ℕ, zero, suc, ◌+◌, ◌/◌, ◌%◌, ◌^◌, ◌≤◌, ◌<◌, List, [], ◌∷◌, ◌++◌, length, take, drop, refl, sym, ap, ◌∙◌, add-one, arith, length-append}
+use Rattle.std.proofs.Math.Seq.{sets, length-sets}
+use Rattle.std.proofs.lemmas.Fmt.{decimal_from_appends, length-decimal-le}
+use Rattle.std.proofs.lemmas.List.{take_at}
+use Rattle.std.proofs.lemmas.List.Edits.{sets-eq}
+use Rattle.std.specs.Fmt as printed
 use borrow.Author.Tests.{lt-ltb, le-ltb, ne_eqb}
 use lib.Dec.{eqb, ltb}
-use lib.ListN.{length, take, set, length-set, length-append}
-use lib.Seq.{take-suc-set}
+use lib.ListN.{set}
 use Rattle.rules.specs.Choice.{pick}
 use Rattle.rules.specs.Buffers.{placed}
 use Rattle.rules.proofs.Choice.{pick_true, pick_false, pick_both}
 use Rattle.rules.specs.declared.Clocks.{Clocks}
-use Rattle.lines.specs.Lines.{decimal_to, decimal, number_line, write_line, read_line, record_line, marked_line, plain_line, LinesMarked, counts_line, Put, PutLine}
+use Rattle.lines.specs.Lines.{decimal_to, decimal, number_line, write_line, read_line, record_line, marked_line, plain_line, LinesMarked, counts_line, PutLine}
 
-placed_append : (at : ℕ) (xs ys l : List ℕ) → placed (at + length xs) ys (placed at xs l) ≡ placed at (xs ++ ys) l
+-- ---- a line at the front of a slice
+
+placed_sets : (at : ℕ) (bytes l : List ℕ) → placed at bytes l ≡ sets l at bytes
 unfolding placed
-placed_append at [] ys l = ap (λ (n : ℕ). placed n ys l) (let z : at + 0 ≡ at = omega arith in z)
-placed_append at (x ∷ xs) ys l =
-    ap
-    (λ (n : ℕ). placed n ys (placed (at + 1) xs (set l at x)))
-    (let z : at + suc (length xs) ≡ at + 1 + length xs = omega arith in z)
-    ∙ placed_append (at + 1) xs ys (set l at x)
+placed_sets at [] l = refl
+placed_sets at (x ∷ bytes) l =
+    placed_sets (at + 1) bytes (set l at x) ∙ ap (λ (n : ℕ). sets (set l at x) n bytes) (add-one at)
 
-module _ {l l' : List ℕ} {at q : ℕ} {xs : List ℕ} where
-  pub put_more : {l'' ys : List ℕ} {r : ℕ} → Put l at xs l' q → Put l' q ys l'' r → Put l at (xs ++ ys) l'' r
-  put_more {l''} {ys} {r} p p' =
-      record {
-        list =
-            p'.list
-            ∙ ap (λ (n : ℕ). placed n ys l') p.place
-            ∙ ap (placed (at + length xs) ys) p.list
-            ∙ placed_append at xs ys l;
-        place = omega (arith, p.place, p'.place, length-append xs ys);
-        size = p'.size ∙ p.size;
-      }
-
-pub put_one : (l : List ℕ) (at x : ℕ) → Put l at (x ∷ []) (set l at x) (at + 1)
-unfolding placed
-put_one l at x = record { list = refl; place = refl; size = length-set l at x }
-
--- the same bytes by another name
-pub put_as : {l l' : List ℕ} {at q : ℕ} {xs ys : List ℕ} → xs ≡ ys → Put l at xs l' q → Put l at ys l' q
-put_as {l} {l'} {at} {q} e p =
-    record {
-      list = p.list ∙ ap (λ (zs : List ℕ). placed at zs l) e;
-      place = p.place ∙ ap (λ (zs : List ℕ). at + length zs) e;
-      size = p.size;
-    }
-
-pub put_byte_as : {l l' : List ℕ} {at q x y : ℕ} → x ≡ y → Put l at (x ∷ []) l' q → Put l at (y ∷ []) l' q
-put_byte_as e p = put_as (ap (λ (z : ℕ). z ∷ []) e) p
-
-pub put_two_as : {l l' : List ℕ} {at q x x' y y' : ℕ} → x ≡ x' → y ≡ y' → Put l at (x ∷ y ∷ []) l' q → Put l at (x' ∷ y' ∷ []) l' q
-put_two_as e f p = put_as (λ i. e i ∷ f i ∷ []) p
-
--- ---- a line, where there is room and where there is none
-
-pub line_put : {l bytes after : List ℕ} {next : ℕ} → 72 ≤ length l → Put l 0 bytes after next → PutLine l bytes after next
-line_put h p = record { put = λ g. p; short = λ g. absurd (omega arith); size = p.size }
-
-pub line_short : (l bytes : List ℕ) → length l < 72 → PutLine l bytes l 0
-line_short l bytes h = record { put = λ g. absurd (omega arith); short = λ g. (refl, refl); size = refl }
-
--- ---- the line that was put is the line that is taken
-
-placed_taken : (at : ℕ) (bytes l : List ℕ) → at + length bytes ≤ length l → take (at + length bytes) (placed at bytes l) ≡ take at l ++ bytes
-unfolding placed
-placed_taken at [] l h = ap (λ (n : ℕ). take n l) (let z : at + 0 ≡ at = omega arith in z) ∙ sym (append-nil (take at l))
-placed_taken at (x ∷ bytes) l h =
-    ap
-    (λ (n : ℕ). take n (placed (at + 1) bytes (set l at x)))
-    (let z : at + suc (length bytes) ≡ at + 1 + length bytes = omega arith in z)
-    ∙ placed_taken (at + 1) bytes (set l at x) (omega (arith, length-set l at x))
-    ∙ ap (λ (n : ℕ). take n (set l at x) ++ bytes) (add-one at)
-    ∙ ap (λ (t : List ℕ). t ++ bytes) (take-suc-set l at x (omega arith))
-    ∙ append_assoc (take at l) (x ∷ []) bytes
+placed_front : (bytes l : List ℕ) → length bytes ≤ length l → placed 0 bytes l ≡ bytes ++ drop (length bytes) l
+placed_front bytes l h =
+    placed_sets 0 bytes l
+    ∙ sets-eq bytes l 0 (omega arith)
+    ∙ ap (λ (n : ℕ). bytes ++ drop n l) (let z : 0 + length bytes ≡ length bytes = omega arith in z)
 
 pub put_taken : (bytes out : List ℕ) → length bytes ≤ length out → take (length bytes) (placed 0 bytes out) ≡ bytes
-put_taken bytes out h =
-    ap (λ (n : ℕ). take n (placed 0 bytes out)) (let z : length bytes ≡ 0 + length bytes = omega arith in z)
-    ∙ placed_taken 0 bytes out (omega arith)
+put_taken bytes out h = ap (take (length bytes)) (placed_front bytes out h) ∙ take_at bytes _ _ refl
 
 pub placed_size : (at : ℕ) (bytes l : List ℕ) → length (placed at bytes l) ≡ length l
-unfolding placed
-placed_size at [] l = refl
-placed_size at (x ∷ bytes) l = placed_size (at + 1) bytes (set l at x) ∙ length-set l at x
+placed_size at bytes l = ap length (placed_sets at bytes l) ∙ length-sets l at bytes
+
+-- a line in its room is put at the front
+pub line_put : (l bytes front : List ℕ) (n : ℕ) → 72 ≤ length l → n ≤ 72 → front ≡ bytes → n ≡ length bytes → PutLine l bytes (front ++ drop n l) n
+line_put l bytes front n room fits e f =
+    let same : front ++ drop n l ≡ placed 0 bytes l = (λ i. e i ++ drop (f i) l) ∙ sym (placed_front bytes l (omega arith)) in
+    let size : length (front ++ drop n l) ≡ length l = ap length same ∙ placed_size 0 bytes l in
+    record { put = λ _. record { list = same; place = omega arith; size = size }; short = λ g. absurd (omega arith); size = size }
 
 -- ---- digits
 
@@ -99,22 +53,20 @@ decimal_most (suc most) n =
     pick_both (λ (xs : List ℕ). length xs ≤ suc most) (ltb n 10) _ _ (omega arith)
     (omega (arith, decimal_most most (n / 10), length-append (decimal_to most (n / 10)) ((48 + n % 10) ∷ [])))
 
-pub put_none : (l : List ℕ) (at n most : ℕ) → most ≡ 0 → Put l at (decimal_to most n) l at
-unfolding decimal_to placed
-put_none l at n zero e = record { list = refl; place = omega arith; size = refl }
-put_none l at n (suc most) e = absurd (omega arith)
-
-pub decimal_small : (most n : ℕ) → 0 < most → n < 10 → (48 + n) ∷ [] ≡ decimal_to most n
+decimal_one : (most n : ℕ) → n < 10 → decimal_to (suc most) n ≡ (48 + n) ∷ []
 unfolding decimal_to
-decimal_small zero n h e = absurd (omega arith)
-decimal_small (suc most) n h e = sym (pick_true (ltb n 10) _ _ (lt-ltb _ _ e))
+decimal_one most n h = pick_true (ltb n 10) _ _ (lt-ltb _ _ h)
 
-pub decimal_more : (most n : ℕ) → 0 < most → 10 ≤ n → decimal_to (most - 1) (n / 10) ++ ((48 + n % 10) ∷ []) ≡ decimal_to most n
+decimal_more : (most n : ℕ) → 10 ≤ n → decimal_to (suc most) n ≡ decimal_to most (n / 10) ++ ((48 + n % 10) ∷ [])
 unfolding decimal_to
-decimal_more zero n h e = absurd (omega arith)
-decimal_more (suc most) n h e =
-    ap (λ (k : ℕ). decimal_to k (n / 10) ++ ((48 + n % 10) ∷ [])) (let z : suc most - 1 ≡ most = omega arith in z)
-    ∙ sym (pick_false (ltb n 10) _ _ (le-ltb _ _ e))
+decimal_more most n h = pick_false (ltb n 10) _ _ (le-ltb _ _ h)
+
+-- the digits that the library writes
+pub decimal_printed : (n : ℕ) → n < 2 ^ 64 → printed.decimal n ≡ decimal n
+decimal_printed n h =
+    sym
+    (decimal_from_appends decimal_to (record { one = decimal_one; more = decimal_more }) 20 n h
+    (length-decimal-le 20 n (omega arith) (omega arith) h))
 
 -- ---- every line has room
 

@@ -1,203 +1,165 @@
-// The lines that a session writes. Each function puts its bytes at the front of a borrowed slice, or from a place on, and
-// answers the place behind them.
+// The lines that a session writes, and how one is put at the front of a borrowed slice.
 #![tactic(auto)]
 
-ghost use Rattle.std.specs.Prelude.{◌≡◌, [], ◌∷◌, ◌+◌, ◌≤◌, ◌<◌, length};
-ghost use Rattle.lines.specs.Lines.{decimal_to, hex_digit, number_then, number_line, write_line, read_line, record_line, counts_line, fault_line, Put, PutLine};
+ghost use Rattle.std.specs.Prelude.{◌≡◌, ◌∷◌, ◌++◌, ◌+◌, ◌≤◌, ◌<◌, [], length};
+ghost use Rattle.arrayvec.specs.ArrayString.{array_string_len};
+ghost use Rattle.lines.specs.Lines.{hex_digit, number_then, number_line, write_line, read_line, record_line, counts_line, PutLine};
+ghost use Rattle.lines.specs.Line.{bytes_of};
 
+use arrayvec::ArrayString;
+use itoa::Buffer;
+use records::Fault;
 use rules::Clocks;
 
 // The room that a caller lends for a line. The longest, of three counts with 20 digits each, has 65 bytes.
 pub const ROOM: usize = 72;
 
-// The most digits of a number of 64 bits.
-const DIGITS: usize = 20;
-
-// The letters of the lines.
-const WRITE: u8 = b'W';
-
-const READ: u8 = b'R';
-
-const GRANT: u8 = b'G';
-
-const MEMORY: u8 = b'M';
-
-const COUNTS: u8 = b'B';
-
-const FAULT: u8 = b'S';
-
-const ZERO: u8 = b'0';
-
-const SPACE: u8 = b' ';
-
 // Behind the number of a port write that has a warning.
-const MARK: u8 = b'!';
+const MARK: char = '!';
 
-const LINE_FEED: u8 = b'\n';
+const LINE_FEED: char = '\n';
 
-fn wide(x: u8) -> u64
-    ensures { result ≡ x }
-{
-    x as u64
+// The text of a line.
+type Text = ArrayString<ROOM>;
+
+// A line: what a record of a session is answered, or the last line. The numbers, warnings and bytes of a port write, a port read
+// and a grant are those that the calls answer to C, with 0 for none; a memory record has number 0.
+#[derive(Clone, Copy)]
+pub enum Line {
+    Write { number: u8, warning: u8 },
+    // An accepted port read shows its byte, another one its number.
+    Read { number: u8, byte: u8 },
+    Grant { number: u8 },
+    Memory { number: u8 },
+    // The end of a session without a fault: its clock counts.
+    Counts(Clocks),
+    // The end of a session with a fault.
+    Fault(Fault),
 }
 
-// The digit of a number below 10.
-fn digit(n: u64) -> u8
-    requires { n < 10 }
-    ensures { result ≡ 48 + n }
-{
-    ZERO + n as u8
-}
-
-// The capital hex digit of a number below 16.
-fn hex_digit(n: u8) -> u8
+// The capital hex digit of a number below 16. std writes one only with a formatter, which promises the text where it succeeds.
+#[tactic(auto, unfolding(crate::specs::Lines::hex_digit, rules::specs::Choice::pick))]
+fn hex_digit(n: u8) -> char
     requires { n < 16 }
-    ensures { result ≡ hex_digit n }
+    ensures value { result ≡ hex_digit n }
+    ensures ascii { result < 128 }
 {
-    if n < 10 {
-        return ZERO + n;
-    }
-    55 + n
+    char::from(match n {
+        0..=9 => b'0' + n,
+        _ => b'A' + (n - 10),
+    })
 }
 
-fn put_byte(byte: u8, line: &mut [u8], at: usize) -> usize
-    requires { at < length line.old }
-    ensures { Put line.old at (byte ∷ []) line.new result }
+// A number in decimal, and the character behind it. A character is one byte below 128 only, so the three functions that take or
+// answer one say so; a type of their own for two constants and some letters would be no plainer.
+fn push_number(text: &mut Text, number: u64, end: char)
+    requires ascii { end < 128 }
+    requires room { array_string_len text.old + 21 ≤ ROOM }
+    ensures bytes { text.new.bytes ≡ text.old.bytes ++ number_then number end }
+    ensures size { array_string_len text.new ≤ array_string_len text.old + 21 }
 {
-    line[at] = byte;
-    at + 1
-}
-
-// The decimal digits of a number that has at most so many.
-fn put_decimal(most: usize, n: u64, line: &mut [u8], at: usize) -> usize
-    requires { at + most ≤ length line.old }
-    ensures put { Put line.old at (decimal_to most n) line.new result }
-    ensures upper_bound { result ≤ at + most }
-{
-    if most == 0 {
-        return at;
-    }
-    if n < 10 {
-        let last = digit(n);
-        return put_byte(last, line, at);
-    }
-    let next = put_decimal(most - 1, n / 10, line, at);
-    let last = digit(n % 10);
-    put_byte(last, line, next)
-}
-
-// Two bytes.
-fn put_two(first: u8, second: u8, line: &mut [u8], at: usize) -> usize
-    requires { at + 2 ≤ length line.old }
-    ensures { Put line.old at (first ∷ second ∷ []) line.new result }
-{
-    let next = put_byte(first, line, at);
-    put_byte(second, line, next)
-}
-
-// A number and the byte behind it.
-fn put_number(n: u64, end: u8, line: &mut [u8], at: usize) -> usize
-    requires { at + 21 ≤ length line.old }
-    ensures put { Put line.old at (number_then n end) line.new result }
-    ensures upper_bound { result ≤ at + 21 }
-{
-    let next = put_decimal(DIGITS, n, line, at);
-    put_byte(end, line, next)
+    text.push_str(Buffer::new().format(number));
+    text.push(end);
 }
 
 // A letter, a space, a number.
-fn put_number_line(letter: u8, number: u8, line: &mut [u8]) -> usize
-    requires { 72 ≤ length line.old }
-    ensures { Put line.old 0 (number_line letter number) line.new result }
+fn number_line(letter: char, number: u8) -> Text
+    requires { letter < 128 }
+    ensures { result.bytes ≡ number_line letter number }
 {
-    let at = put_two(letter, SPACE, line, 0);
-    put_number(wide(number), LINE_FEED, line, at)
+    let mut text = Text::new();
+    text.push(letter);
+    text.push(' ');
+    push_number(&mut text, u64::from(number), LINE_FEED);
+    text
 }
 
 // The line of a port write, marked where there is a warning.
-fn put_write_line(number: u8, warning: u8, line: &mut [u8]) -> usize
-    requires { 72 ≤ length line.old }
-    ensures { Put line.old 0 (write_line number warning) line.new result }
+#[tactic(auto, unfolding(crate::specs::Lines::write_line, rules::specs::Choice::pick))]
+fn write_line(number: u8, warning: u8) -> Text
+    ensures { result.bytes ≡ write_line number warning }
 {
     if warning == 0 {
-        return put_number_line(WRITE, number, line);
+        return number_line('W', number);
     }
-    let at = put_two(WRITE, SPACE, line, 0);
-    let at = put_number(wide(number), SPACE, line, at);
-    put_two(MARK, LINE_FEED, line, at)
+    let mut text = Text::new();
+    text.push_str("W ");
+    push_number(&mut text, u64::from(number), ' ');
+    text.push(MARK);
+    text.push(LINE_FEED);
+    text
 }
 
 // The line of a port read: an accepted one with its byte.
-fn put_read_line(number: u8, byte: u8, line: &mut [u8]) -> usize
-    requires { 72 ≤ length line.old }
-    ensures { Put line.old 0 (read_line number byte) line.new result }
+#[tactic(auto, unfolding(crate::specs::Lines::read_line, rules::specs::Choice::pick))]
+fn read_line(number: u8, byte: u8) -> Text
+    ensures { result.bytes ≡ read_line number byte }
 {
-    if number == 0 {
-        let high = hex_digit(byte / 16);
-        let low = hex_digit(byte % 16);
-        let at = put_two(READ, SPACE, line, 0);
-        let at = put_two(ZERO, SPACE, line, at);
-        let at = put_two(high, low, line, at);
-        return put_byte(LINE_FEED, line, at);
+    if number != 0 {
+        return number_line('R', number);
     }
-    put_number_line(READ, number, line)
-}
-
-// The line of a record, by its kind.
-fn record_line(kind: u8, number: u8, byte: u8, warning: u8, line: &mut [u8]) -> usize
-    requires { 72 ≤ length line.old }
-    ensures { Put line.old 0 (record_line kind number byte warning) line.new result }
-{
-    if kind == records::WRITE {
-        return put_write_line(number, warning, line);
-    }
-    if kind == records::READ {
-        return put_read_line(number, byte, line);
-    }
-    if kind == records::GRANT {
-        return put_number_line(GRANT, number, line);
-    }
-    put_number_line(MEMORY, number, line)
+    let mut text = Text::new();
+    text.push_str("R 0 ");
+    text.push(hex_digit(byte / 16));
+    text.push(hex_digit(byte % 16));
+    text.push(LINE_FEED);
+    text
 }
 
 // A letter and the three counts.
-fn counts_line(clocks: Clocks, line: &mut [u8]) -> usize
-    requires { 72 ≤ length line.old }
-    ensures { Put line.old 0 (counts_line clocks) line.new result }
+fn counts_line(clocks: Clocks) -> Text
+    ensures { result.bytes ≡ counts_line clocks }
 {
-    let at = put_two(COUNTS, SPACE, line, 0);
-    let at = put_number(clocks.bus, SPACE, line, at);
-    let at = put_number(clocks.held, SPACE, line, at);
-    put_number(clocks.cpu, LINE_FEED, line, at)
+    let mut text = Text::new();
+    text.push_str("B ");
+    push_number(&mut text, clocks.bus, ' ');
+    push_number(&mut text, clocks.held, ' ');
+    push_number(&mut text, clocks.cpu, LINE_FEED);
+    text
 }
 
-// The line of a record of this kind, answered with this number and, for a port read, this byte, for a port write this warning,
-// at the front of `line`. The answer is its length, 0 where there is no room for a line.
-pub fn put_record_line(kind: u8, number: u8, byte: u8, warning: u8, line: &mut [u8]) -> usize
-    ensures { PutLine line.old (record_line kind number byte warning) line.new result }
-{
-    if line.len() < ROOM {
-        return 0;
+impl Line {
+    // The line of a record of this kind, answered with this number and, for a port read, this byte, for a port write this warning.
+    // 1 is a port write, 2 a port read, 3 a grant; any other kind has the line of a memory record. It is for who has a record by
+    // its numbers: it takes any kind, and the four numbers of an answer.
+    #[tactic(auto, unfolding(crate::specs::Lines::record_line, rules::specs::Choice::pick))]
+    pub fn of_kind(kind: u8, number: u8, byte: u8, warning: u8) -> Self
+        ensures { bytes_of result ≡ record_line kind number byte warning }
+    {
+        match kind {
+            1 => Line::Write { number, warning },
+            2 => Line::Read { number, byte },
+            3 => Line::Grant { number },
+            _ => Line::Memory { number },
+        }
     }
-    record_line(kind, number, byte, warning, line)
-}
 
-// The last line of a session without a fault, put in the same way.
-pub fn put_counts_line(clocks: Clocks, line: &mut [u8]) -> usize
-    ensures { PutLine line.old (counts_line clocks) line.new result }
-{
-    if line.len() < ROOM {
-        return 0;
+    // No `Display`: `write!` promises the text where it succeeds, and `PutLine` asks for it wherever there is room.
+    #[tactic(auto, unfolding(crate::specs::Lines::record_line, rules::specs::Choice::pick))]
+    fn text(self) -> Text
+        ensures { result.bytes ≡ bytes_of self }
+    {
+        match self {
+            Line::Write { number, warning } => write_line(number, warning),
+            Line::Read { number, byte } => read_line(number, byte),
+            Line::Grant { number } => number_line('G', number),
+            Line::Memory { number } => number_line('M', number),
+            Line::Counts(clocks) => counts_line(clocks),
+            Line::Fault(fault) => number_line('S', u8::from(fault)),
+        }
     }
-    counts_line(clocks, line)
-}
 
-// The last line of a session with a fault, put in the same way.
-pub fn put_fault_line(number: u8, line: &mut [u8]) -> usize
-    ensures { PutLine line.old (fault_line number) line.new result }
-{
-    if line.len() < ROOM {
-        return 0;
+    // Puts the line at the front of a slice, and answers its length. Where the slice has no room for a line it stays as it is,
+    // and the answer is 0, as `PutLine` has it.
+    pub fn put(self, out: &mut [u8]) -> usize
+        ensures { PutLine out.old (bytes_of self) out.new result }
+    {
+        if out.len() < ROOM {
+            return 0;
+        }
+        let text = self.text();
+        let length = text.len();
+        out[..length].copy_from_slice(text.as_bytes());
+        length
     }
-    put_number_line(FAULT, number, line)
 }

@@ -1,2 +1,4 @@
+pub mod Lowest
+pub mod Mask
 pub mod Parameters
 pub mod Validity

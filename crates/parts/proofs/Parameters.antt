@@ -1,11 +1,11 @@
 -- From A timing on the valid numbers are the divisors of the read mask's, and WR4's two together: neither these nor the valid ones
 -- go beyond 512, and all up to there are tried.
 -- Assumes nothing.
-use Rattle.std.proofs.Common.{◌≡◌, ℕ, ◌+◌, ◌%◌, ◌<◌, ◌≤◌, Bool, true, false, eqb, ltb, [], ◌∷◌, sym, refl, ◌∙◌, mod-eq_of_lt, arith, ltb-false, ltb-true, le-ltb, eqb-true}
-use Rattle.rules.specs.Choice.{any, means}
+use Rattle.std.proofs.Common.{◌≡◌, ℕ, ◌+◌, ◌%◌, ◌<◌, ◌≤◌, Bool, true, false, ◌||◌, eqb, ltb, [], ◌∷◌, sym, refl, ◌∙◌, mod-eq_of_lt, arith, ltb-false, ltb-true, lt-ltb, le-ltb, eqb-true}
+use Rattle.rules.specs.Choice.{pick, any, means}
 use Rattle.rules.specs.Pending.{a_timing, b_low, b_high, read_mask, valid_pending}
 use Rattle.rules.specs.Opened.{opened}
-use Rattle.rules.proofs.Choice.{clash, either, any_cases, any_none, means_so}
+use Rattle.rules.proofs.Choice.{clash, either, any_cases, any_none, means_so, strict}
 use Rattle.rules.proofs.Trying.{all_below, below_at}
 use Rattle.rules.proofs.Parameters.{each_number}
 
@@ -37,7 +37,14 @@ same_test true t f g = sym (f refl)
 same_test false true f g = g refl
 same_test false false f g = refl
 
-pub from_timing_on : (p : ℕ) → a_timing ≤ p → divisor_or_both p ≡ valid_pending p
+pub of_wr0 : (p : ℕ) → p < a_timing → valid_pending p ≡ true
+unfolding valid_pending any pick
+of_wr0 p h = simp (lt-ltb _ _ h)
+
+pub from_timing_on : (p : ℕ) → a_timing ≤ p → valid_pending p ≡ (eqb (read_mask % p) 0 || eqb p (b_low + b_high))
+unfolding divisor_or_both
 from_timing_on p h =
-    same_test _ _ (divisor_valid p)
-    (λ e. any_cases _ _ (valid_divisor p e) (λ d. clash (sym (le-ltb _ _ h) ∙ d)) (λ d. any_cases _ _ d (λ t. t) any_none))
+    sym
+    (same_test _ _ (divisor_valid p)
+    (λ e. any_cases _ _ (valid_divisor p e) (λ d. clash (sym (le-ltb _ _ h) ∙ d)) (λ d. any_cases _ _ d (λ t. t) any_none)))
+    ∙ simp strict

@@ -5,14 +5,11 @@ ghost use Rattle.rules.specs.Blocks.{block_count, bytes_left, finished};
 use rules::Block;
 
 // The bytes of a block.
+#[tactic(auto, unfolding(rules::specs::Blocks::block_count, rules::specs::Choice::pick))]
 pub fn block_count(b: Block) -> u32
     ensures { result ≡ block_count b }
 {
-    let length = b.length as u32;
-    if b.zilog {
-        return length + 1;
-    }
-    length
+    u32::from(b.length) + u32::from(b.zilog)
 }
 
 // The bytes that the counter is short of the block count, by a wrapping difference: where a slot begins in a valid device the
@@ -20,14 +17,13 @@ pub fn block_count(b: Block) -> u32
 pub fn bytes_left(b: Block) -> u32
     ensures { result ≡ bytes_left b }
 {
-    let count = block_count(b);
-    std::num::wrapping_sub_u32(count, b.counter)
+    block_count(b).wrapping_sub(b.counter)
 }
 
 // The counter is at or above the block count.
+#[tactic(auto, unfolding(rules::specs::Blocks::finished))]
 pub fn is_finished(b: Block) -> bool
     ensures { result ≡ finished b }
 {
-    let count = block_count(b);
-    count <= b.counter
+    block_count(b) <= b.counter
 }

@@ -6,32 +6,31 @@ ghost use Rattle.rules.specs.Bytes.{with_low, with_high};
 pub fn byte_at(bytes: &[u8], place: usize) -> u8
     ensures { result ≡ slice_index bytes.now place }
 {
-    if place < bytes.len() {
-        return bytes[place];
-    }
-    0
+    bytes.get(place).copied().unwrap_or(0)
 }
 
-// A byte is put at a place; behind the last nothing is put.
+// A byte is put at a place; behind the last nothing is put. Of what is written through a slice's `get_mut` no contract says
+// where in the slice it lies, so the place is compared here.
 pub fn put(bytes: &mut [u8], place: usize, byte: u8)
     ensures { bytes.new ≡ slice_set bytes.old place byte }
 {
     if place < bytes.len() {
         bytes[place] = byte;
-        return;
     }
 }
 
-// The number with its low byte replaced.
+// The number with its low byte replaced. This and the next stay two: one function for both would need a flag that says which byte.
 pub fn with_low(byte: u8, n: u16) -> u16
     ensures { result ≡ with_low byte n }
 {
-    n / 256 * 256 + byte as u16
+    let [high, _] = n.to_be_bytes();
+    u16::from_be_bytes([high, byte])
 }
 
 // The number with its high byte replaced.
 pub fn with_high(byte: u8, n: u16) -> u16
     ensures { result ≡ with_high byte n }
 {
-    byte as u16 * 256 + n % 256
+    let [_, low] = n.to_be_bytes();
+    u16::from_be_bytes([byte, low])
 }

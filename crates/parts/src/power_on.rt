@@ -40,32 +40,26 @@ pub fn readback_at_reset() -> Readback
 pub fn core() -> Core
     ensures { result ≡ power_on }
 {
-    let port = port();
-    let block = Block {
-        length: 0,
-        counter: 0,
-        zilog: false,
-    };
-    let control = Control {
-        forward: true,
-        prescaler: 0,
-        burst: false,
-        restart: false,
-        speed: speed::FULL,
-    };
-    let status = status_at_reset();
-    let readback = readback_at_reset();
-    let slot = slot::no_slot();
     Core {
-        a: port,
-        b: port,
-        block,
-        control,
-        status,
-        readback,
+        a: port(),
+        b: port(),
+        block: Block {
+            length: 0,
+            counter: 0,
+            zilog: false,
+        },
+        control: Control {
+            forward: true,
+            prescaler: 0,
+            burst: false,
+            restart: false,
+            speed: speed::FULL,
+        },
+        status: status_at_reset(),
+        readback: readback_at_reset(),
         pending: pending::NOTHING,
         enabled: false,
-        slot,
+        slot: slot::no_slot(),
     }
 }
 

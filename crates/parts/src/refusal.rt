@@ -1,45 +1,81 @@
-// Why a port write, a port read or a speed call is refused.
+// Why a call is refused.
 ghost use Rattle.std.specs.Prelude.{◌≡◌, not, [], ◌∷◌};
 ghost use Rattle.rules.specs.Choice.{test, first_hit};
 ghost use Rattle.rules.specs.Speed.{is_speed};
 ghost use Rattle.rules.specs.Refusals.{wrong_port};
+ghost use Rattle.parts.specs.Numbers.{reason_number, refusal_number};
 
 use crate::speed;
 
+// The refusals, and the number that C has for each. The lowest that applies is the one that is answered.
+#[derive(Clone, Copy, Debug, PartialEq, Eq)]
+pub enum Refusal {
+    // The device is not valid.
+    InvalidDevice = 1,
+    // The port is not one of the device's.
+    WrongPort = 2,
+    // The device holds the bus.
+    BusHeld = 3,
+    // The memory lent has a wrong length.
+    MemoryLength = 4,
+    // The latches lent have a wrong length.
+    LatchesLength = 5,
+    // The sum of the clock counts and the grant does not fit 64 bits.
+    TooManyClocks = 6,
+    // The code is no speed's.
+    NoSpeed = 7,
+}
+
+impl From<Refusal> for u8 {
+    ghost from_gives = { λ refusal number. number ≡ reason_number refusal };
+
+    fn from(refusal: Refusal) -> u8 {
+        refusal as u8
+    }
+}
+
+// The low byte of the port that stands for zxn mode.
+const ZXN_PORT: u16 = 0x6B;
+
+// The low byte of the port that stands for Zilog mode.
+pub const ZILOG_PORT: u16 = 0x0B;
+
 // The port is not one of the device's.
+#[tactic(auto, unfolding(rules::specs::Choice::every, rules::specs::Choice::pick))]
 fn is_wrong_port(port: u16) -> bool
     ensures { result ≡ wrong_port port }
 {
-    let low = port % 256;
-    (low != 0x6B) & (low != 0x0B)
+    !matches!(port % 256, ZXN_PORT | ZILOG_PORT)
 }
 
-// The number of a port write or a port read, by whether the device is valid and holds the bus: 0 for accepted.
-pub fn access_number(valid: bool, held: bool, port: u16) -> u8
-    ensures { result ≡ first_hit (test 1 (not valid) ∷ test 2 (wrong_port port) ∷ test 3 held ∷ []) }
+// Whether a port write or a port read is accepted, by whether the device is valid and holds the bus. Both are flags and not the core
+// itself: a call that took the core would be too large for a compiler to put it into each access.
+#[tactic(auto, unfolding(rules::specs::Choice::first_hit, rules::specs::Choice::pick))]
+pub fn access(valid: bool, held: bool, port: u16) -> Result<(), Refusal>
+    ensures { refusal_number result ≡ first_hit (test 1 (not valid) ∷ test 2 (wrong_port port) ∷ test 3 held ∷ []) }
 {
-    let wrong = is_wrong_port(port);
     if !valid {
-        return 1;
+        return Err(Refusal::InvalidDevice);
     }
-    if wrong {
-        return 2;
+    if is_wrong_port(port) {
+        return Err(Refusal::WrongPort);
     }
     if held {
-        return 3;
+        return Err(Refusal::BusHeld);
     }
-    0
+    Ok(())
 }
 
-// The number of a speed call, by whether the device is valid: 0 for accepted.
-pub fn speed_number(valid: bool, code: u8) -> u8
-    ensures { result ≡ first_hit (test 1 (not valid) ∷ test 7 (not (is_speed code)) ∷ []) }
+// Whether a speed call is accepted, by whether the device is valid.
+#[tactic(auto, unfolding(rules::specs::Choice::first_hit, rules::specs::Choice::pick))]
+pub fn speed(valid: bool, code: u8) -> Result<(), Refusal>
+    ensures { refusal_number result ≡ first_hit (test 1 (not valid) ∷ test 7 (not (is_speed code)) ∷ []) }
 {
     if !valid {
-        return 1;
+        return Err(Refusal::InvalidDevice);
     }
     if !speed::is_speed(code) {
-        return 7;
+        return Err(Refusal::NoSpeed);
     }
-    0
+    Ok(())
 }

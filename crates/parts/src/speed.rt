@@ -4,7 +4,7 @@ ghost use Rattle.rules.specs.Speed.{is_speed, factor};
 
 use rules::Control;
 
-// The speed code at power on, 28 MHz, which is the largest.
+// The speed code at power on, 28 MHz, which is the largest. A code is a number, since it is a field that C has.
 pub const FULL: u8 = 3;
 
 // By the speed code: 3.5, 7, 14 and 28 MHz.
@@ -18,11 +18,13 @@ pub fn is_speed(code: u8) -> bool
 }
 
 // The factor of the code that the device holds. One above 3, as no valid device holds, counts as 28 MHz.
+#[tactic(auto, unfolding(rules::specs::Speed::factor, rules::specs::Choice::pick))]
 pub fn factor_of(k: Control) -> u16
     ensures { result ≡ factor k.speed }
 {
     if is_speed(k.speed) {
-        return FACTORS[k.speed as usize];
+        FACTORS[usize::from(k.speed)]
+    } else {
+        1
     }
-    1
 }

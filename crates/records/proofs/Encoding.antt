@@ -12,10 +12,9 @@ use lib.Seq.{drop-drop, length-take-le}
 use Rattle.rules.specs.Choice.{pick}
 use Rattle.rules.specs.Bytes.{AreBytes}
 use Rattle.rules.proofs.Choice.{pick_false, pick_both, pick_cases}
-use Rattle.records.specs.Records.{none, short, behind, write_record, read_record, grant_record, memory_record, of_kind, record_at}
+use Rattle.records.specs.Records.{Record, none, short, behind, write_record, read_record, grant_record, memory_record, of_kind, record_at}
 use Rattle.records.specs.Encoding.{SessionRecord, to_write, to_read, to_grant, to_memory, InRange, kind_and_arguments, record_bytes}
 use Rattle.records.specs.BigEndian.{number_at, bytes_of, numbers_in, word, quad, two_bytes, four_bytes}
-use Rattle.records.specs.declared.Record.{Record}
 use Rattle.records.proofs.Bytes.{byte_small, bytes_join, bytes_take, bytes_drop}
 use Rattle.records.proofs.BigEndian.{bytes_of_lem, bytes_long, number_of_lem, number_small, one_back, bytes_back}
 use Rattle.records.proofs.Pieces.{record_is}

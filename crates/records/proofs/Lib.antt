@@ -5,3 +5,4 @@ pub mod Standing
 pub mod Pieces
 pub mod Moving
 pub mod Encoding
+pub mod Reading

@@ -10,9 +10,8 @@ use lib.Dec.{eqb, leb, ltb}
 use lib.ListN.{length, get_or, drop, length-drop}
 use Rattle.rules.specs.Choice.{pick}
 use Rattle.rules.proofs.Choice.{either}
-use Rattle.records.specs.Records.{none, short, behind, write_record, read_record, grant_record, memory_record, of_kind, record_at, long_length}
+use Rattle.records.specs.Records.{Record, none, short, behind, write_record, read_record, grant_record, memory_record, of_kind, record_at, long_length}
 use Rattle.records.specs.BigEndian.{word}
-use Rattle.records.specs.declared.Record.{Record}
 use Rattle.records.proofs.Choosing.{lift}
 use Rattle.records.proofs.BigEndian.{byte_moves, number_moves}
 

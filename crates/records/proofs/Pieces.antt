@@ -11,9 +11,8 @@ use lib.Dec.{eqb, leb, ltb}
 use lib.ListN.{length, get_or, length-append}
 use Rattle.rules.specs.Choice.{pick}
 use Rattle.rules.proofs.Choice.{pick_false, pick_both, pick_cases, either}
-use Rattle.records.specs.Records.{none, short, behind, write_record, read_record, grant_record, memory_record, of_kind, record_at, long_length}
+use Rattle.records.specs.Records.{Record, none, short, behind, write_record, read_record, grant_record, memory_record, of_kind, record_at, long_length}
 use Rattle.records.specs.BigEndian.{word}
-use Rattle.records.specs.declared.Record.{Record}
 use Rattle.records.proofs.Choosing.{same}
 use Rattle.records.proofs.BigEndian.{byte_stays, number_stays}
 

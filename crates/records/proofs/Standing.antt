@@ -13,9 +13,8 @@ use lib.ListN.{length, get_or}
 use Rattle.rules.specs.Choice.{pick}
 use Rattle.rules.specs.Bytes.{AreBytes}
 use Rattle.rules.proofs.Choice.{pick_true, pick_false, pick_both, pick_cases}
-use Rattle.records.specs.Records.{none, short, behind, write_record, read_record, grant_record, memory_record, of_kind, record_at, long_length}
+use Rattle.records.specs.Records.{Record, none, short, behind, write_record, read_record, grant_record, memory_record, of_kind, record_at, long_length}
 use Rattle.records.specs.BigEndian.{word}
-use Rattle.records.specs.declared.Record.{Record}
 use Rattle.records.proofs.Bytes.{byte_small}
 
 -- where a record stands, it takes bytes; where the end does, no byte is left; a fault there is 21 or 22

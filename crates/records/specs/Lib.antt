@@ -1,3 +1,4 @@
 pub mod BigEndian
 pub mod Records
+pub mod Found
 pub mod Encoding

@@ -5,7 +5,21 @@
 use Rattle.std.specs.Prelude.{ℕ, ◌+◌, ◌-◌, Bool, List, eqb, leb, ltb, length, get_or}
 use Rattle.rules.specs.Choice.{pick}
 use Rattle.records.specs.BigEndian.{word, quad}
-use Rattle.records.specs.declared.Record.{Record}
+
+-- what stands at a place
+pub record Record : Type 0 where
+  -- 0: more bytes are needed. 1 to 4: a record of that kind. 5: no record, the input ends here. 21, 22: a fault
+  pub number : ℕ
+  -- the port of a port write or read, the address of a memory record, else 0
+  pub word : ℕ
+  -- the byte of a port write, else 0
+  pub byte : ℕ
+  -- the clocks of a grant, else 0
+  pub clocks : ℕ
+  -- the place of a memory record's first byte for the memory, else 0
+  pub start : ℕ
+  -- the place behind the record; where there is none, the place asked about
+  pub next : ℕ
 
 -- the version of a session, its first byte
 abbrev pub version : ℕ

@@ -1,257 +1,134 @@
 // The records of a session's bytes.
 #![tactic(auto)]
 
-ghost use Rattle.std.specs.Prelude.{◌≡◌, ◌+◌, ◌*◌, ◌≤◌, ◌<◌, length};
-ghost use Rattle.records.specs.Records.{short, behind, write_record, read_record, grant_record, memory_record, of_kind, record_at, long_length};
-ghost use Rattle.records.specs.Records.{none as no_record};
-ghost use Rattle.records.specs.BigEndian.{word, quad};
+ghost use Rattle.std.specs.Prelude.{◌≡◌, ◌+◌, ◌*◌, ◌≤◌, ◌<◌, length, unwrap_or, IfSome, MatchOption};
+ghost use Rattle.records.specs.BigEndian.{word};
+ghost use Rattle.records.specs.Records.{record_at, long_length};
+ghost use Rattle.records.specs.Found.{fault_number, standing, Reads, StandBehindLength, EndsIn, Lends};
 
-// What stands at a place of a session's bytes.
+// A record, by what it asks for.
 #[derive(Clone, Copy)]
-pub struct Record {
-    // 0: more bytes are needed. 1 to 4: a record of that kind. 5: no record, the input ends here. 21, 22: a fault.
-    pub number: u8,
-    // The port of a port write or read, the address of a memory record, else 0.
-    pub word: u16,
-    // The byte of a port write, else 0.
-    pub byte: u8,
-    // The clocks of a grant, else 0.
-    pub clocks: u32,
-    // The place of a memory record's first byte for the memory, else 0.
-    pub start: usize,
-    // The place behind the record; where there is none, the place asked about.
-    pub next: usize,
+pub enum Record<'a> {
+    Write { port: u16, byte: u8 },
+    Read { port: u16 },
+    Grant { clocks: u32 },
+    // Bytes that are put into the memory from an address on.
+    Memory { address: u16, bytes: &'a [u8] },
 }
 
-// The numbers of an answer: more bytes are needed; a record of each kind; the end of the input; the faults of a record.
-pub const MORE: u8 = 0;
+// What stands at a place of a session's bytes, if it is no fault.
+#[derive(Clone, Copy)]
+pub enum Found<'a> {
+    // More bytes are needed.
+    More,
+    // No record: the input ends here.
+    End,
+    // A record, all of it, and the place behind it.
+    Whole { found: Record<'a>, next: usize },
+}
 
-pub const WRITE: u8 = 1;
+// What ends a session early, and the number that its line shows.
+#[derive(Clone, Copy, Debug, PartialEq, Eq)]
+pub enum Fault {
+    // The version is missing or not 1.
+    NoVersion = 20,
+    // A record is cut short.
+    Cut = 21,
+    // A record is of no kind, or not as long as its kind is.
+    Wrong = 22,
+}
 
-pub const READ: u8 = 2;
+impl From<Fault> for u8 {
+    ghost from_gives = { λ fault number. number ≡ fault_number fault };
 
-pub const GRANT: u8 = 3;
+    fn from(fault: Fault) -> u8 {
+        fault as u8
+    }
+}
 
-pub const MEMORY: u8 = 4;
+// The kinds of a record.
+const WRITE: u8 = 1;
 
-pub const END: u8 = 5;
+const READ: u8 = 2;
 
-// Cut short.
-pub const CUT: u8 = 21;
+const GRANT: u8 = 3;
 
-// Of no kind, or not as long as its kind is.
-pub const WRONG: u8 = 22;
+const MEMORY: u8 = 4;
 
 // The longest record of any kind, without its length: a memory record of 255 bytes.
 const LONGEST: usize = 258;
 
-fn wide(x: u8) -> u16
-    ensures { (result ≡ x) × (result ≤ 255) }
+// The record whose bytes these are, behind its length.
+#[tactic(auto, using(std::proofs::lemmas::Grind::common_steps, crate::proofs::Reading::reads_write, crate::proofs::Reading::reads_read, crate::proofs::Reading::reads_grant, crate::proofs::Reading::reads_memory))]
+fn record_of(bytes: &[u8]) -> Result<Record<'_>, Fault>
+    ensures reads { Reads bytes.now result }
+    ensures lends { EndsIn bytes.now result }
 {
-    x as u16
-}
-
-fn widest(x: u16) -> u32
-    ensures { (result ≡ x) × (result ≤ 65535) }
-{
-    x as u32
-}
-
-pub fn index(x: u16) -> usize
-    ensures { (result ≡ x) × (result ≤ 65535) }
-{
-    x as usize
-}
-
-// The number of the two bytes at a place, high byte first.
-fn word_at(input: &[u8], at: usize) -> u16
-    requires { at + 2 ≤ length input.now }
-    ensures { result ≡ word input.now at }
-{
-    let high = wide(input[at]);
-    let low = wide(input[at + 1]);
-    256 * high + low
-}
-
-// The number of the four bytes at a place.
-fn quad_at(input: &[u8], at: usize) -> u32
-    requires { at + 4 ≤ length input.now }
-    ensures { result ≡ quad input.now at }
-{
-    let high = widest(word_at(input, at));
-    let low = widest(word_at(input, at + 2));
-    65536 * high + low
-}
-
-fn no_record(number: u8, place: usize) -> Record
-    ensures { result ≡ no_record number place }
-{
-    Record {
-        number,
-        word: 0,
-        byte: 0,
-        clocks: 0,
-        start: 0,
-        next: place,
-    }
-}
-
-// A record that is not all there.
-fn cut_short(ended: bool, place: usize) -> Record
-    ensures { result ≡ short ended place }
-{
-    if ended {
-        return no_record(CUT, place);
-    }
-    no_record(MORE, place)
-}
-
-// The place behind the bytes at hand.
-fn behind_all(ended: bool, place: usize) -> Record
-    ensures { result ≡ behind ended place }
-{
-    if ended {
-        return no_record(END, place);
-    }
-    no_record(MORE, place)
-}
-
-// A port write, if n is its length.
-fn write_record(input: &[u8], place: usize, n: usize) -> Record
-    requires { place + 2 + n ≤ length input.now }
-    ensures { result ≡ write_record input.now place n }
-{
-    if n == 4 {
-        let port = word_at(input, place + 3);
-        let byte = input[place + 5];
-        return Record {
-            number: WRITE,
-            word: port,
+    match *bytes {
+        [WRITE, high, low, byte] => Ok(Record::Write {
+            port: u16::from_be_bytes([high, low]),
             byte,
-            clocks: 0,
-            start: 0,
-            next: place + 6,
-        };
-    }
-    no_record(WRONG, place)
-}
-
-// A port read, if n is its length.
-fn read_record(input: &[u8], place: usize, n: usize) -> Record
-    requires { place + 2 + n ≤ length input.now }
-    ensures { result ≡ read_record input.now place n }
-{
-    if n == 3 {
-        let port = word_at(input, place + 3);
-        return Record {
-            number: READ,
-            word: port,
-            byte: 0,
-            clocks: 0,
-            start: 0,
-            next: place + 5,
-        };
-    }
-    no_record(WRONG, place)
-}
-
-// A grant, if n is its length.
-fn grant_record(input: &[u8], place: usize, n: usize) -> Record
-    requires { place + 2 + n ≤ length input.now }
-    ensures { result ≡ grant_record input.now place n }
-{
-    if n == 5 {
-        let clocks = quad_at(input, place + 3);
-        return Record {
-            number: GRANT,
-            word: 0,
-            byte: 0,
-            clocks,
-            start: 0,
-            next: place + 7,
-        };
-    }
-    no_record(WRONG, place)
-}
-
-// A memory record, if n is a length of one.
-fn memory_record(input: &[u8], place: usize, n: usize) -> Record
-    requires { place + 2 + n ≤ length input.now }
-    ensures { result ≡ memory_record input.now place n }
-{
-    if n < 4 {
-        return no_record(WRONG, place);
-    }
-    if LONGEST < n {
-        return no_record(WRONG, place);
-    }
-    let address = word_at(input, place + 3);
-    Record {
-        number: MEMORY,
-        word: address,
-        byte: 0,
-        clocks: 0,
-        start: place + 5,
-        next: place + 2 + n,
+        }),
+        [READ, high, low] => Ok(Record::Read {
+            port: u16::from_be_bytes([high, low]),
+        }),
+        [GRANT, a, b, c, d] => Ok(Record::Grant {
+            clocks: u32::from_be_bytes([a, b, c, d]),
+        }),
+        [MEMORY, high, low, _, ..] if bytes.len() <= LONGEST => Ok(Record::Memory {
+            address: u16::from_be_bytes([high, low]),
+            bytes: &bytes[3..],
+        }),
+        _ => Err(Fault::Wrong),
     }
 }
 
-// A record of which all n bytes are there, by its kind.
-fn of_kind(input: &[u8], place: usize, n: usize, kind: u8) -> Record
-    requires { place + 2 + n ≤ length input.now }
-    ensures { result ≡ of_kind input.now place n kind }
+// The length of the record at a place, once both bytes of it are at hand.
+#[tactic(auto, using(std::proofs::lemmas::List::take_rest, crate::proofs::Reading::length_is))]
+fn length_at(input: &[u8], place: usize) -> Option<usize>
+    ensures { MatchOption result (length input.now < place + 2) (λ n. (place + 2 ≤ length input.now) × (n ≡ word input.now place)) }
 {
-    if kind == WRITE {
-        return write_record(input, place, n);
+    match input.get(place..)? {
+        [high, low, ..] => Some(usize::from(u16::from_be_bytes([*high, *low]))),
+        _ => None,
     }
-    if kind == READ {
-        return read_record(input, place, n);
-    }
-    if kind == GRANT {
-        return grant_record(input, place, n);
-    }
-    if kind == MEMORY {
-        return memory_record(input, place, n);
-    }
-    no_record(WRONG, place)
+}
+
+// The bytes of the record at a place, behind its length, once all of them are at hand.
+fn bytes_at(input: &[u8], place: usize) -> Option<&[u8]>
+    ensures { MatchOption result (length input.now < place + 2 + word input.now place) (λ b. StandBehindLength input.now place b.now) }
+{
+    let count = length_at(input, place)?;
+    input.get(place + 2..)?.get(..count)
 }
 
 // What stands at a place of the bytes at hand, where `ended` says that no byte comes after them. The place may lie
 // anywhere, also behind the bytes. Of a record that is too long for any kind it waits for all bytes: who cannot hold them
-// asks long_length first.
-pub fn record_at(input: &[u8], place: usize, ended: bool) -> Record
-    ensures { result ≡ record_at input.now place ended }
+// asks long_length first. Bytes, place and end come one by one: who reads in pieces keeps them apart, in a buffer of its own.
+#[tactic(auto, using(crate::proofs::Reading::more_missing, crate::proofs::Reading::cut_there, crate::proofs::Reading::lent_there, crate::proofs::Standing::at_end))]
+pub fn record_at(input: &[u8], place: usize, ended: bool) -> Result<Found<'_>, Fault>
+    ensures stands { standing place result ≡ record_at input.now place ended }
+    ensures lends { Lends input.now result }
 {
-    if input.len() <= place {
-        return behind_all(ended, place);
+    match bytes_at(input, place) {
+        Some(bytes) => {
+            let found = record_of(bytes)?;
+            Ok(Found::Whole {
+                found,
+                next: place + 2 + bytes.len(),
+            })
+        }
+        None if !ended => Ok(Found::More),
+        None if input.len() <= place => Ok(Found::End),
+        None => Err(Fault::Cut),
     }
-    if input.len() <= place + 1 {
-        return cut_short(ended, place);
-    }
-    let n = index(word_at(input, place));
-    if input.len() - (place + 2) < n {
-        return cut_short(ended, place);
-    }
-    if n == 0 {
-        return no_record(WRONG, place);
-    }
-    let kind = input[place + 2];
-    of_kind(input, place, n, kind)
 }
 
-// The length of a record that is too long for any kind, once both bytes of the length are at hand, else 0.
-pub fn long_length(input: &[u8], place: usize) -> usize
-    ensures { result ≡ long_length input.now place }
+// The length of a record that is too long for any kind, once both bytes of the length are at hand.
+#[tactic(auto, using(std::proofs::lemmas::Grind::common_steps, crate::proofs::Reading::long_missing, crate::proofs::Reading::long_found, crate::proofs::Reading::not_long))]
+pub fn long_length(input: &[u8], place: usize) -> Option<usize>
+    ensures number { unwrap_or result 0 ≡ long_length input.now place }
+    ensures long { IfSome result (λ n. LONGEST < n) }
 {
-    if input.len() <= place {
-        return 0;
-    }
-    if input.len() <= place + 1 {
-        return 0;
-    }
-    let n = index(word_at(input, place));
-    if LONGEST < n {
-        return n;
-    }
-    0
+    length_at(input, place).filter(|n| *n > LONGEST)
 }

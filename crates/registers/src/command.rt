@@ -1,175 +1,87 @@
 // WR6, the commands.
 ghost use Rattle.std.specs.Prelude.{◌≡◌};
-ghost use Rattle.rules.specs.Commands.{block_ended, enable, control_at_reset, reset, continue, load, restart_reading, ask_status, reading_command, command};
-ghost use Rattle.rules.specs.Parts.{with_a, with_b, with_control, with_readback, with_status};
-ghost use Rattle.rules.specs.Ports.{reset_timing};
-ghost use Rattle.rules.specs.PowerOn.{status_at_reset, readback_at_reset};
+ghost use Rattle.rules.specs.Commands.{block_ended, enable, reset, load, command};
 
 use parts::{block, part, port, power_on};
 use rules::Core;
 
 // E becomes 0.
-pub fn block_ended(c: Core) -> Core
+pub fn block_ended(mut c: Core) -> Core
     ensures { result ≡ block_ended c }
 {
-    let mut next = c;
-    next.status.e = false;
-    next
+    c.status.e = false;
+    c
 }
 
 // Enable: nothing if already enabled, nothing but E if the block is finished.
-pub fn enabled(c: Core) -> Core
+#[tactic(auto, unfolding(rules::specs::Commands::enable, rules::specs::Choice::pick))]
+pub fn enabled(mut c: Core) -> Core
     ensures { result ≡ enable c }
 {
     if c.enabled {
         return c;
     }
-    let b = c.block;
-    let finished = block::is_finished(b);
-    if finished {
+    if block::is_finished(c.block) {
         return block_ended(c);
     }
-    let mut next = c;
-    next.enabled = true;
-    next
-}
-
-// The status byte becomes 3A.
-fn status_reset(c: Core) -> Core
-    ensures { result ≡ with_status status_at_reset c }
-{
-    let status = power_on::status_at_reset();
-    part::with_status(status, c)
-}
-
-// Reading as after a reset.
-fn readback_reset(c: Core) -> Core
-    ensures { result ≡ with_readback readback_at_reset c }
-{
-    let readback = power_on::readback_at_reset();
-    part::with_readback(readback, c)
-}
-
-// The cycle of A becomes 4.
-fn a_timing_reset(c: Core) -> Core
-    ensures { result ≡ with_a (reset_timing c.a) c }
-{
-    let p = c.a;
-    let p = port::reset_timing(p);
-    part::with_a(p, c)
-}
-
-// The cycle of B becomes 4.
-fn b_timing_reset(c: Core) -> Core
-    ensures { result ≡ with_b (reset_timing c.b) c }
-{
-    let p = c.b;
-    let p = port::reset_timing(p);
-    part::with_b(p, c)
-}
-
-// Prescaler 0 and no auto restart; the speed stays.
-fn control_reset(c: Core) -> Core
-    ensures { result ≡ with_control (control_at_reset c.control) c }
-{
-    let mut next = c;
-    next.control.prescaler = 0;
-    next.control.restart = false;
-    next
-}
-
-// Reset.
-fn reset_all(c: Core) -> Core
-    ensures { result ≡ reset c }
-{
-    let c = a_timing_reset(c);
-    let c = b_timing_reset(c);
-    let c = control_reset(c);
-    let c = status_reset(c);
-    let c = readback_reset(c);
-    part::disabled(c)
-}
-
-// Continue: counter 0.
-fn continued(c: Core) -> Core
-    ensures { result ≡ continue c }
-{
-    let mut next = c;
-    next.block.counter = 0;
-    next
-}
-
-// Load: the pointers take the starting addresses, counter 0.
-pub fn loaded(c: Core) -> Core
-    ensures { result ≡ load c }
-{
-    let a = c.a;
-    let b = c.b;
-    let a = port::load(a);
-    let b = port::load(b);
-    let c = continued(c);
-    let c = part::with_b(b, c);
-    part::with_a(a, c)
-}
-
-// Reading starts again.
-fn reading_restarted(c: Core) -> Core
-    ensures { result ≡ restart_reading c }
-{
-    let mut next = c;
-    next.readback.position = 0;
-    next
-}
-
-// The next accepted read gives the status.
-fn status_asked(c: Core) -> Core
-    ensures { result ≡ ask_status c }
-{
-    let mut next = c;
-    next.readback.waiting = true;
-    next
-}
-
-// The commands on reading and on the status.
-fn reading_command(byte: u8, c: Core) -> Core
-    ensures { result ≡ reading_command byte c }
-{
-    if byte == 0x8B {
-        return status_reset(c);
-    }
-    if byte == 0xBF {
-        return status_asked(c);
-    }
-    if byte == 0xA7 {
-        return reading_restarted(c);
-    }
+    c.enabled = true;
     c
 }
 
-// A command.
-pub fn obey(byte: u8, c: Core) -> Core
+// Reset: disabled, both cycles 4, prescaler 0, no auto restart, status 3A, and reading as at power-on. The speed stays.
+fn reset_all(mut c: Core) -> Core
+    ensures { result ≡ reset c }
+{
+    c.a = port::reset_timing(c.a);
+    c.b = port::reset_timing(c.b);
+    c.control.prescaler = 0;
+    c.control.restart = false;
+    c.status = power_on::status_at_reset();
+    c.readback = power_on::readback_at_reset();
+    part::disabled(c)
+}
+
+// Load: the pointers take the starting addresses, counter 0.
+pub fn loaded(mut c: Core) -> Core
+    ensures { result ≡ load c }
+{
+    c.a = port::load(c.a);
+    c.b = port::load(c.b);
+    c.block.counter = 0;
+    c
+}
+
+// A command; a byte that is none changes nothing. The bytes are literals: each stands here once, beside what it does, and an enum of
+// them would state each twice.
+#[tactic(auto, unfolding(rules::specs::Commands::command, rules::specs::Commands::reading_command, rules::specs::Choice::first_of, rules::specs::Choice::pick))]
+pub fn obey(byte: u8, mut c: Core) -> Core
     ensures { result ≡ command byte c }
 {
-    if byte == 0xC3 {
-        return reset_all(c);
+    match byte {
+        // Reset.
+        0xC3 => c = reset_all(c),
+
+        // The timing of A, and that of B, as after a reset.
+        0xC7 => c.a = port::reset_timing(c.a),
+        0xCB => c.b = port::reset_timing(c.b),
+
+        // Load, and Continue.
+        0xCF => c = loaded(c),
+        0xD3 => c.block.counter = 0,
+
+        // Enable, and Disable.
+        0x87 => c = enabled(c),
+        0x83 => c = part::disabled(c),
+
+        // The status byte becomes 3A.
+        0x8B => c.status = power_on::status_at_reset(),
+
+        // The next accepted read gives the status.
+        0xBF => c.readback.waiting = true,
+
+        // Reading starts again.
+        0xA7 => c.readback.position = 0,
+        _ => {}
     }
-    if byte == 0xC7 {
-        return a_timing_reset(c);
-    }
-    if byte == 0xCB {
-        return b_timing_reset(c);
-    }
-    if byte == 0xCF {
-        return loaded(c);
-    }
-    if byte == 0xD3 {
-        return continued(c);
-    }
-    if byte == 0x87 {
-        return enabled(c);
-    }
-    if byte == 0x83 {
-        return part::disabled(c);
-    }
-    reading_command(byte, c)
+    c
 }

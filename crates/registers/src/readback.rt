@@ -13,82 +13,41 @@ pub struct Given {
     pub core: Core,
 }
 
-// The status byte.
+// The status byte, 00E1101T.
+#[tactic(auto, unfolding(rules::specs::Readback::status_byte, rules::specs::Choice::pick))]
 fn status_byte(s: Status) -> u8
     ensures { result ≡ status_byte s }
 {
-    if s.e {
-        if s.t {
-            return 0x3B;
-        }
-        return 0x3A;
-    }
-    if s.t {
-        return 0x1B;
-    }
-    0x1A
+    0x1A + 32 * u8::from(s.e) + u8::from(s.t)
 }
 
-// The low byte of a number.
-fn low(n: u32) -> u8
-    ensures { result ≡ low_byte n }
-{
-    (n % 256) as u8
-}
-
-// The high byte of a number's low 16 bits.
-fn high(n: u32) -> u8
-    ensures { result ≡ high_byte n }
-{
-    (n / 256 % 256) as u8
-}
-
-// A pointer in 32 bits.
-fn wide(x: u16) -> u32
-    ensures { result ≡ x }
-{
-    x as u32
-}
-
-// Register `k`.
+// Register `k`, low before high; the counter is read modulo 65,536. It is a number, since C has the read position as one, and each
+// number has an answer.
+#[tactic(auto, unfolding(rules::specs::Readback::register_byte, rules::specs::Choice::first_of, rules::specs::Choice::pick))]
 fn register_byte(k: u8, c: Core) -> u8
     ensures { result ≡ register_byte k c }
 {
-    if k == 0 {
-        let status = c.status;
-        return status_byte(status);
+    match k {
+        0 => status_byte(c.status),
+        1 => c.block.counter.to_le_bytes()[0],
+        2 => c.block.counter.to_le_bytes()[1],
+        3 => c.a.pointer.to_le_bytes()[0],
+        4 => c.a.pointer.to_le_bytes()[1],
+        5 => c.b.pointer.to_le_bytes()[0],
+        _ => c.b.pointer.to_le_bytes()[1],
     }
-    if k == 1 {
-        return low(c.block.counter);
-    }
-    if k == 2 {
-        return high(c.block.counter);
-    }
-    let a = wide(c.a.pointer);
-    if k == 3 {
-        return low(a);
-    }
-    if k == 4 {
-        return high(a);
-    }
-    let b = wide(c.b.pointer);
-    if k == 5 {
-        return low(b);
-    }
-    high(b)
 }
 
 // The register after `k`, going round.
-fn next_register(k: u8) -> u8
+#[tactic(auto, unfolding(rules::specs::Readback::after, rules::specs::Choice::pick))]
+pub fn next_register(k: u8) -> u8
     ensures { result ≡ after k }
 {
-    if k < 6 {
-        return k + 1;
-    }
-    0
+    if k < 6 { k + 1 } else { 0 }
 }
 
-// The first register in the mask at or after the position.
+// The first register in the mask at or after the position: `mask::first_register`, under the name that the promise has here. Mask and
+// position are two, since it holds for every mask and every position, and C's `Readback` has a flag besides.
 pub fn first_in_mask(mask: u8, position: u8) -> u8
     ensures { result ≡ chosen mask position }
 {
@@ -96,22 +55,17 @@ pub fn first_in_mask(mask: u8, position: u8) -> u8
 }
 
 // An accepted read.
-pub fn read(c: Core) -> Given
+#[tactic(auto, unfolding(rules::specs::Readback::read_byte, rules::specs::Choice::first_of, rules::specs::Choice::pick))]
+pub fn read(mut c: Core) -> Given
     ensures { result ≡ given (read_byte c) }
 {
     let byte = status_byte(c.status);
-    if c.readback.waiting {
-        let mut next = c;
-        next.readback.waiting = false;
-        return Given { byte, core: next };
-    }
-    if c.readback.mask == 0 {
+    if c.readback.waiting || c.readback.mask == 0 {
+        c.readback.waiting = false;
         return Given { byte, core: c };
     }
     let k = first_in_mask(c.readback.mask, c.readback.position);
     let byte = register_byte(k, c);
-    let position = next_register(k);
-    let mut next = c;
-    next.readback.position = position;
-    Given { byte, core: next }
+    c.readback.position = next_register(k);
+    Given { byte, core: c }
 }

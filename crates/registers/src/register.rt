@@ -1,275 +1,100 @@
 // What a byte written to the port does.
 ghost use Rattle.std.specs.Prelude.{◌≡◌};
-ghost use Rattle.rules.specs.Bytes.{with_low, with_high};
-ghost use Rattle.rules.specs.Parts.{with_a, with_b, with_block, with_length, with_control, with_prescaler};
-ghost use Rattle.rules.specs.Ports.{timed, addressed_low, addressed_high};
-ghost use Rattle.rules.specs.Registers.{wr0, wr1, wr2, wr3, wr4, wr5, register, masked, parameter, carried_out_as, effect, in_mode, written};
+ghost use Rattle.rules.specs.Registers.{register, parameter, carried_out_as, effect, written};
 ghost use Rattle.rules.specs.Warnings.{warning as warning_of};
-ghost use Rattle.registers.specs.Answers.{decoded};
+ghost use Rattle.parts.specs.Numbers.{bit_of, parameter_number, register_number, warning_number};
 
 use crate::command;
-use parts::{bytes, part, pending, port, selection, warning};
+use parts::pending::{self, Parameter};
+use parts::selection::{self, Register};
+use parts::warning::{self, Warning};
+use parts::{bytes, part, port, refusal};
 use rules::Core;
 
-// A byte decoded: its warning, and the core after it.
+// A byte decoded: its warning, if it has one, and the core after it. A type for this and a read's answer, `Done<T>`, would be no
+// plainer: its field would be called neither warning nor byte.
 #[derive(Clone, Copy)]
 pub struct Decoded {
-    pub warning: u8,
+    pub warning: Option<Warning>,
     pub core: Core,
 }
 
-// A to B or B to A.
-fn write_wr0(byte: u8, c: Core) -> Core
-    ensures { result ≡ wr0 byte c }
+// The register that a byte selects is written; a byte that selects none changes nothing.
+#[tactic(auto, unfolding(rules::specs::Registers::register, rules::specs::Registers::wr3, rules::specs::Choice::first_of, rules::specs::Choice::pick))]
+fn write_register(selected: Option<Register>, byte: u8, mut c: Core) -> Core
+    ensures { result ≡ register (register_number selected) byte c }
 {
-    let forward = byte / 4 % 2 == 1;
-    let mut next = c;
-    next.control.forward = forward;
-    next
-}
-
-// Port A's kind and step.
-fn write_wr1(byte: u8, c: Core) -> Core
-    ensures { result ≡ wr1 byte c }
-{
-    let p = c.a;
-    let p = port::configure(byte, p);
-    part::with_a(p, c)
-}
-
-// Port B's kind and step.
-fn write_wr2(byte: u8, c: Core) -> Core
-    ensures { result ≡ wr2 byte c }
-{
-    let p = c.b;
-    let p = port::configure(byte, p);
-    part::with_b(p, c)
-}
-
-// Enable or Disable.
-fn write_wr3(byte: u8, c: Core) -> Core
-    ensures { result ≡ wr3 byte c }
-{
-    if byte / 64 % 2 == 1 {
-        return command::enabled(c);
-    }
-    part::disabled(c)
-}
-
-// Burst or continuous.
-fn write_wr4(byte: u8, c: Core) -> Core
-    ensures { result ≡ wr4 byte c }
-{
-    let burst = byte / 32 % 4 == 2;
-    let mut next = c;
-    next.control.burst = burst;
-    next
-}
-
-// Auto restart.
-fn write_wr5(byte: u8, c: Core) -> Core
-    ensures { result ≡ wr5 byte c }
-{
-    let restart = byte / 32 % 2 == 1;
-    let mut next = c;
-    next.control.restart = restart;
-    next
-}
-
-// The register with this number is written.
-fn write_register(number: u8, byte: u8, c: Core) -> Core
-    ensures { result ≡ register number byte c }
-{
-    if number == 0 {
-        return write_wr0(byte, c);
-    }
-    if number == 1 {
-        return write_wr1(byte, c);
-    }
-    if number == 2 {
-        return write_wr2(byte, c);
-    }
-    if number == 3 {
-        return write_wr3(byte, c);
-    }
-    if number == 4 {
-        return write_wr4(byte, c);
-    }
-    if number == 5 {
-        return write_wr5(byte, c);
-    }
-    if number == 6 {
-        return command::obey(byte, c);
+    match selected {
+        Some(Register::Wr0) => c.control.forward = byte / 4 % 2 == 1,
+        Some(Register::Wr1) => c.a = port::configure(byte, c.a),
+        Some(Register::Wr2) => c.b = port::configure(byte, c.b),
+        Some(Register::Wr3) if byte / 64 % 2 == 1 => c = command::enabled(c),
+        Some(Register::Wr3) => c = part::disabled(c),
+        Some(Register::Wr4) => c.control.burst = byte / 32 % 4 == 2,
+        Some(Register::Wr5) => c.control.restart = byte / 32 % 2 == 1,
+        Some(Register::Wr6) => c = command::obey(byte, c),
+        None => {}
     }
     c
 }
 
-// The low byte of A's starting address.
-fn a_low_written(byte: u8, c: Core) -> Core
-    ensures { result ≡ with_a (addressed_low byte c.a) c }
+// A parameter takes effect. Each byte of a number leaves the other as it was; the read mask drops bit 7, and reading goes to the
+// start.
+#[tactic(auto, unfolding(rules::specs::Registers::parameter, rules::specs::Choice::first_of, rules::specs::Choice::pick))]
+fn write_parameter(which: Parameter, byte: u8, mut c: Core) -> Core
+    ensures { result ≡ parameter (bit_of which) byte c }
 {
-    let p = c.a;
-    let p = port::address_low(byte, p);
-    part::with_a(p, c)
-}
-
-// The high byte of A's starting address.
-fn a_high_written(byte: u8, c: Core) -> Core
-    ensures { result ≡ with_a (addressed_high byte c.a) c }
-{
-    let p = c.a;
-    let p = port::address_high(byte, p);
-    part::with_a(p, c)
-}
-
-// The low byte of B's starting address.
-fn b_low_written(byte: u8, c: Core) -> Core
-    ensures { result ≡ with_b (addressed_low byte c.b) c }
-{
-    let p = c.b;
-    let p = port::address_low(byte, p);
-    part::with_b(p, c)
-}
-
-// The high byte of B's starting address.
-fn b_high_written(byte: u8, c: Core) -> Core
-    ensures { result ≡ with_b (addressed_high byte c.b) c }
-{
-    let p = c.b;
-    let p = port::address_high(byte, p);
-    part::with_b(p, c)
-}
-
-// A's cycle.
-fn a_timing_written(byte: u8, c: Core) -> Core
-    ensures { result ≡ with_a (timed byte c.a) c }
-{
-    let p = c.a;
-    let p = port::time(byte, p);
-    part::with_a(p, c)
-}
-
-// B's cycle.
-fn b_timing_written(byte: u8, c: Core) -> Core
-    ensures { result ≡ with_b (timed byte c.b) c }
-{
-    let p = c.b;
-    let p = port::time(byte, p);
-    part::with_b(p, c)
-}
-
-// The low byte of the length.
-fn length_low_written(byte: u8, c: Core) -> Core
-    ensures { result ≡ with_block (with_length (with_low byte c.block.length) c.block) c }
-{
-    let length = bytes::with_low(byte, c.block.length);
-    let mut next = c;
-    next.block.length = length;
-    next
-}
-
-// The high byte of the length.
-fn length_high_written(byte: u8, c: Core) -> Core
-    ensures { result ≡ with_block (with_length (with_high byte c.block.length) c.block) c }
-{
-    let length = bytes::with_high(byte, c.block.length);
-    let mut next = c;
-    next.block.length = length;
-    next
-}
-
-// The prescaler.
-fn prescaler_written(byte: u8, c: Core) -> Core
-    ensures { result ≡ with_control (with_prescaler byte c.control) c }
-{
-    let mut next = c;
-    next.control.prescaler = byte;
-    next
-}
-
-// The read mask, and reading from the start.
-fn mask_written(byte: u8, c: Core) -> Core
-    ensures { result ≡ masked byte c }
-{
-    let mask = byte % 128;
-    let mut next = c;
-    next.readback.mask = mask;
-    next.readback.position = 0;
-    next
-}
-
-// This parameter takes effect.
-fn write_parameter(which: u16, byte: u8, c: Core) -> Core
-    ensures { result ≡ parameter which byte c }
-{
-    if which == pending::A_LOW {
-        return a_low_written(byte, c);
+    match which {
+        Parameter::ALow => c.a.address = bytes::with_low(byte, c.a.address),
+        Parameter::AHigh => c.a.address = bytes::with_high(byte, c.a.address),
+        Parameter::LengthLow => c.block.length = bytes::with_low(byte, c.block.length),
+        Parameter::LengthHigh => c.block.length = bytes::with_high(byte, c.block.length),
+        Parameter::ATiming => c.a = port::time(byte, c.a),
+        Parameter::BTiming => c.b = port::time(byte, c.b),
+        Parameter::Prescaler => c.control.prescaler = byte,
+        Parameter::BLow => c.b.address = bytes::with_low(byte, c.b.address),
+        Parameter::BHigh => c.b.address = bytes::with_high(byte, c.b.address),
+        Parameter::ReadMask => {
+            c.readback.mask = byte % 128;
+            c.readback.position = 0;
+        }
     }
-    if which == pending::A_HIGH {
-        return a_high_written(byte, c);
-    }
-    if which == pending::LENGTH_LOW {
-        return length_low_written(byte, c);
-    }
-    if which == pending::LENGTH_HIGH {
-        return length_high_written(byte, c);
-    }
-    if which == pending::A_TIMING {
-        return a_timing_written(byte, c);
-    }
-    if which == pending::B_TIMING {
-        return b_timing_written(byte, c);
-    }
-    if which == pending::PRESCALER {
-        return prescaler_written(byte, c);
-    }
-    if which == pending::B_LOW {
-        return b_low_written(byte, c);
-    }
-    if which == pending::B_HIGH {
-        return b_high_written(byte, c);
-    }
-    mask_written(byte, c)
-}
-
-// The compatibility mode that the port stands for.
-fn in_mode(port: u16, c: Core) -> Core
-    ensures { result ≡ in_mode port c }
-{
-    let zilog = port % 256 == 0x0B;
-    let mut next = c;
-    next.block.zilog = zilog;
-    next
+    c
 }
 
 // A byte is carried out, as this parameter or, where it is none, by the register that it selects.
-fn carry_out(which: u16, byte: u8, c: Core) -> Core
-    ensures { result ≡ carried_out_as which byte c }
+#[tactic(auto, unfolding(rules::specs::Registers::carried_out_as, rules::specs::Choice::pick))]
+fn carry_out(which: Option<Parameter>, byte: u8, c: Core) -> Core
+    ensures { result ≡ carried_out_as (parameter_number which) byte c }
 {
-    if which != pending::NOTHING {
-        return write_parameter(which, byte, c);
+    match which {
+        Some(parameter) => write_parameter(parameter, byte, c),
+        None => write_register(selection::register_of(byte), byte, c),
     }
-    let number = selection::register_of(byte);
-    write_register(number, byte, c)
 }
 
 // A byte takes effect: it is carried out, and what is pending after it is pending. Its warning goes by what was pending.
-fn take_effect(byte: u8, c: Core) -> Decoded
-    ensures { result ≡ decoded (warning_of c.pending byte) (effect byte c) }
+#[tactic(auto, unfolding(rules::specs::Registers::effect_over))]
+fn take_effect(byte: u8, mut c: Core) -> Decoded
+    ensures warning { warning_number result.warning ≡ warning_of c.pending byte }
+    ensures core { result.core ≡ effect byte c }
 {
-    let parameters = c.pending;
-    let which = pending::next_of(parameters);
-    let parameters = pending::after(which, byte, parameters);
-    let warning = warning::of(which, byte);
-    let c = carry_out(which, byte, c);
-    let core = part::with_pending(parameters, c);
-    Decoded { warning, core }
+    let which = pending::next_of(c.pending);
+    let pending = pending::after(which, byte, c.pending);
+    c = carry_out(which, byte, c);
+    c.pending = pending;
+    Decoded {
+        warning: warning::of(which, byte),
+        core: c,
+    }
 }
 
-// An accepted write: its warning, by what was pending before it, and the core after it.
-pub fn write(port: u16, byte: u8, c: Core) -> Decoded
-    ensures { result ≡ decoded (warning_of c.pending byte) (written port byte c) }
+// An accepted write, after which the compatibility mode is the one that the port stands for. Its warning goes by what was
+// pending before it.
+pub fn write(port: u16, byte: u8, mut c: Core) -> Decoded
+    ensures warning { warning_number result.warning ≡ warning_of c.pending byte }
+    ensures core { result.core ≡ written port byte c }
 {
-    let c = in_mode(port, c);
+    c.block.zilog = port % 256 == refusal::ZILOG_PORT;
     take_effect(byte, c)
 }

@@ -12,7 +12,8 @@ use borrow.Author.Tests.{eqb-true, eqb-false, ne_eqb}
 use Rattle.rules.specs.Choice.{pick}
 use Rattle.rules.specs.Speed.{at_speed}
 use Rattle.rules.specs.Validity.{total, valid_core}
-use Rattle.rules.specs.Clock.{Kind, bus_clock, held_clock, cpu_clock, counted, clock_of}
+use Rattle.rules.specs.Clock.{bus_clock, held_clock, cpu_clock, counted, clock_of}
+use Rattle.rules.specs.declared.at_once.Kind.{Kind}
 use Rattle.rules.specs.Registers.{written}
 use Rattle.rules.specs.Readback.{read_byte}
 use Rattle.rules.specs.Buffers.{Store, Buffers}

@@ -19,7 +19,8 @@ use Rattle.rules.specs.Slots.{bus_time_of, larger, slot_length, new_slot, slot_o
 use Rattle.rules.specs.Validity.{valid_core, valid, total}
 use Rattle.rules.specs.Facts.{InRange, ValidSlot, resting, running}
 use Rattle.rules.specs.Readback.{read_byte}
-use Rattle.rules.specs.Clock.{Kind, bus_clock, held_clock, cpu_clock, counted, Clock, clock, moved, with_elapsed, moves_at, moved_at, kind_at, ending, slot_end, clock_end, slot_clock, begun, clock_of}
+use Rattle.rules.specs.Clock.{bus_clock, held_clock, cpu_clock, counted, Clock, clock, moved, with_elapsed, moves_at, moved_at, kind_at, ending, slot_end, clock_end, slot_clock, begun, clock_of}
+use Rattle.rules.specs.declared.at_once.Kind.{Kind}
 use Rattle.rules.specs.Buffers.{Store}
 use Rattle.rules.specs.World.{World, System, note, step_counted, clocked}
 use Rattle.rules.specs.Calls.{Answer, grant, grant_over}

@@ -20,6 +20,7 @@ pub mod Spans
 pub mod Stretches
 pub mod WholeSlots
 pub mod Turns
+pub mod Coded
 pub mod Calls
 pub mod Awaiting
 pub mod Refusing

@@ -8,13 +8,14 @@ use native.Mathlib.Numerals.{add-one}
 use mathlib.Core.Path.{◌≡◌, refl, sym, ◌∙◌, ap}
 use mathlib.Core.Bool.{false}
 use Rattle.rules.specs.Choice.{pick}
-use Rattle.rules.specs.Clock.{Kind, bus_clock, held_clock, cpu_clock, counted_by, counted, clock_of}
+use Rattle.rules.specs.Clock.{bus_clock, held_clock, cpu_clock, counted_by, counted, clock_of}
+use Rattle.rules.specs.declared.at_once.Kind.{Kind}
 use Rattle.rules.specs.Buffers.{Store, Buffers, source, destination}
 use Rattle.rules.specs.World.{System, system, buffers_after, clocked}
 use Rattle.rules.specs.Spans.{kind_code, kind_of, ticks, span, IsSpan, IsLongestSpan, span_passed, SpansAreClocks, SpansSettled}
 use Rattle.rules.specs.declared.Clocks.{Clocks}
 use Rattle.rules.specs.declared.Core.{Core}
-use Rattle.rules.specs.declared.Span.{Span}
+use Rattle.rules.specs.declared.at_once.Span.{Span}
 use Rattle.rules.proofs.Choice.{clash, pick_false, any_cases, any_none}
 use Rattle.rules.proofs.World.{clocked_zero, clocked_suc}
 
@@ -77,17 +78,13 @@ module _ {M : Type 0} (σ : Store M) (s : System M) where
     still_buffers (suc i) h =
         clocked_buffers i ∙ pick_false _ _ _ (p.quiet i (omega arith)) ∙ still_buffers i (omega arith)
 
-    -- the kind of each clock is the span's
-    span_kind : (i : ℕ) → i < x.clocks → (clock_of (ticks i s.world.core)).kind ≡ kind_of x.kind
-    span_kind i h = sym (kind_of_code _) ∙ ap kind_of (p.kinds i h)
-
     -- all clocks are counted by the one kind
-    still_clocks : (i : ℕ) → i ≤ x.clocks → (clocked σ i s).clocks ≡ counted_by (kind_of x.kind) i s.clocks
-    still_clocks zero h = ap (λ (t : System M). t.clocks) (clocked_zero σ s) ∙ sym (counted_none (kind_of x.kind) s.clocks)
+    still_clocks : (i : ℕ) → i ≤ x.clocks → (clocked σ i s).clocks ≡ counted_by x.kind i s.clocks
+    still_clocks zero h = ap (λ (t : System M). t.clocks) (clocked_zero σ s) ∙ sym (counted_none x.kind s.clocks)
     still_clocks (suc i) h =
         clocked_clocks i
-        ∙ (λ j. counted (span_kind i h j) (still_clocks i (omega arith) j))
-        ∙ counted_more (kind_of x.kind) i s.clocks
+        ∙ (λ j. counted (p.kinds i h j) (still_clocks i (omega arith) j))
+        ∙ counted_more x.kind i s.clocks
 
     -- the byte moves on the last clock
     last_buffers : (i : ℕ) → i ≡ x.clocks → (clocked σ i s).world.buffers ≡ buffers_after σ x.moves x.from x.to s.world.buffers

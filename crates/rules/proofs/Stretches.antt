@@ -13,19 +13,20 @@ use borrow.Author.Tests.{eq-eqb, ne_eqb, le-leb, lt-leb, lt-ltb, le-ltb, ltb-tru
 use Rattle.rules.specs.Choice.{pick, any}
 use Rattle.rules.specs.Parts.{with_slot}
 use Rattle.rules.specs.Slots.{new_slot, slot_of}
-use Rattle.rules.specs.Clock.{Kind, bus_clock, cpu_clock, counted_by, Clock, Ending, clock, moved, with_elapsed, moves_at, moved_at, wait_kind, kind_at, slot_end, clock_end, slot_clock, clock_of, begun}
+use Rattle.rules.specs.Clock.{bus_clock, cpu_clock, counted_by, Clock, Ending, clock, moved, with_elapsed, moves_at, moved_at, wait_kind, kind_at, slot_end, clock_end, slot_clock, clock_of, begun}
+use Rattle.rules.specs.declared.at_once.Kind.{Kind}
 use Rattle.rules.specs.Buffers.{Store, Buffers, source, destination}
 use Rattle.rules.specs.World.{system, buffers_after, clocked}
-use Rattle.rules.specs.Spans.{kind_code, ticks, span, IsSpan, ends_slot, IsLongest}
+use Rattle.rules.specs.Spans.{ticks, span, IsSpan, ends_slot, IsLongest}
 use Rattle.rules.specs.Stretches.{least, slot_rest, stretch_rest, quiet, elapsed_by, WaitsAreClocks}
 use Rattle.rules.specs.declared.Place.{Place}
 use Rattle.rules.specs.declared.Slot.{Slot}
 use Rattle.rules.specs.declared.Clocks.{Clocks}
 use Rattle.rules.specs.declared.Core.{Core}
-use Rattle.rules.specs.declared.Span.{Span}
+use Rattle.rules.specs.declared.at_once.Span.{Span}
 use Rattle.rules.proofs.Choice.{pick_true, pick_false, pick_both, pick_cases, pick_ap, either, all_true, true_all, any_first, any_more, any_cases, any_none, every_stop, every_stop_later, clash}
 use Rattle.rules.proofs.Slots.{slot_begins, slot_runs, slot_cases}
-use Rattle.rules.proofs.Spans.{kind_of_code, ticks_zero, ticks_suc, span_clocked}
+use Rattle.rules.proofs.Spans.{ticks_zero, ticks_suc, span_clocked}
 
 -- ---- a slot's n-th clock
 
@@ -168,7 +169,7 @@ module _ {c d : Core} (r : Runs c d) {n : ℕ} (w : Within c.slot.elapsed n d.sl
       record {
         within = within;
         some = λ g. some;
-        kinds = λ i l. ap (λ (x : Clock). kind_code x.kind) (run_clock i l) ∙ ap kind_code (run_kind i l);
+        kinds = λ i l. ap (λ (x : Clock). x.kind) (run_clock i l) ∙ run_kind i l;
         quiet = λ i l. ap (λ (x : Clock). x.moves) (run_clock i (omega arith)) ∙ ne_eqb (c.slot.elapsed + i + 1) d.slot.bus (no_move i l);
         last = λ i e. ap (λ (x : Clock). x.moves) (last_clock i e);
         source = λ i e. run_source i (omega arith);
@@ -321,7 +322,7 @@ idle_span c budget off =
     record {
       within = omega arith;
       some = λ g. g;
-      kinds = λ i l. ap (λ (d : Core). kind_code (clock_of d).kind) (idle_core c off i) ∙ ap (λ (x : Clock). kind_code x.kind) (clock_idle c off);
+      kinds = λ i l. ap (λ (d : Core). (clock_of d).kind) (idle_core c off i) ∙ ap (λ (x : Clock). x.kind) (clock_idle c off);
       quiet = λ i l. still i;
       last = λ i e. still i;
       source = λ i e. ap source (idle_core c off i);
@@ -351,7 +352,7 @@ still σ moves from to b e = pick_false _ _ _ e
 still_clocked : {M : Type 0} (σ : Store M) {n : ℕ} (kind : Kind) {moves : Bool} {c next : Core} (b : Buffers M) (k : Clocks) → IsSpan c n (span kind n moves c next) → moves ≡ false → clocked σ n (system c b k) ≡ system next b (counted_by kind n k)
 still_clocked σ {n} kind {moves} {c} {next} b k p e =
     span_clocked σ (system c b k) p
-    ∙ (λ i. system next (still σ moves (source c) (destination c) b e i) (counted_by (kind_of_code kind i) n k))
+    ∙ (λ i. system next (still σ moves (source c) (destination c) b e i) (counted_by kind n k))
 
 -- clocks of a disabled device
 idle_clocked : {M : Type 0} (σ : Store M) (n : ℕ) (c : Core) (b : Buffers M) (k : Clocks) → c.enabled ≡ false → clocked σ n (system c b k) ≡ system c b (counted_by cpu_clock n k)

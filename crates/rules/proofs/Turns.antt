@@ -15,7 +15,7 @@ use Rattle.rules.specs.WholeSlots.{slots_within, slots_passed}
 use Rattle.rules.specs.Turns.{Ready, Passed, TurnsAreClocks}
 use Rattle.rules.specs.declared.Clocks.{Clocks}
 use Rattle.rules.specs.declared.Core.{Core}
-use Rattle.rules.specs.declared.Span.{Span}
+use Rattle.rules.specs.declared.at_once.Span.{Span}
 use Rattle.rules.proofs.Blocks.{count_most}
 use Rattle.rules.proofs.World.{clocked_zero, clocked_add, clocked_kept, clocked_total}
 use Rattle.rules.proofs.Spans.{span_clocked}

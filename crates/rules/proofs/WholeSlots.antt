@@ -28,7 +28,7 @@ use Rattle.rules.proofs.Slots.{unmoved_first}
 use Rattle.rules.proofs.Steady.{kept_steady, kept_slot, kept_progress}
 use Rattle.rules.proofs.Clock.{new_length, new_bus}
 use Rattle.rules.proofs.World.{clocked_add}
-use Rattle.rules.proofs.Spans.{kind_of_code, counted_none, span_clocked}
+use Rattle.rules.proofs.Spans.{counted_none, span_clocked}
 use Rattle.rules.proofs.Stretches.{clock_first, clock_later, Runs, Part, to_move, behind, stretch_span, least_facts}
 
 -- ---- the two clocks of a slot on which something happens
@@ -82,7 +82,7 @@ module _ {M : Type 0} (σ : Store M) (s : System M) where
       ∙ (λ i.
       system (slot_clock (e i) d).next
       (buffers_after σ (moves_at (e i) d) (source s.world.core) (destination s.world.core) s.world.buffers)
-      (counted_by ((kind_of_code _ ∙ ap (λ (j : ℕ). kind_at j d) e) i) n s.clocks))
+      (counted_by (kind_at (e i) d) n s.clocks))
 
 starts_runs : (c : Core) → Starts c → Runs c (with_slot (new_slot c) c)
 unfolding source destination

@@ -7,7 +7,8 @@ use native.Mathlib.Nat.{add-zero, add-suc}
 use mathlib.Core.Path.{◌≡◌, refl, sym, ◌∙◌, ap, subst}
 use Rattle.rules.specs.Validity.{total}
 use Rattle.rules.specs.Facts.{Kept}
-use Rattle.rules.specs.Clock.{Kind, bus_clock, held_clock, cpu_clock, counted_by, clock_of}
+use Rattle.rules.specs.Clock.{bus_clock, held_clock, cpu_clock, counted_by, clock_of}
+use Rattle.rules.specs.declared.at_once.Kind.{Kind}
 use Rattle.rules.specs.Buffers.{Store}
 use Rattle.rules.specs.World.{System, step_counted, clocked, clocked_by}
 use Rattle.rules.specs.declared.Clocks.{Clocks}

@@ -6,7 +6,8 @@ use Rattle.std.proofs.Math.Option.{Option, none, some}
 use Rattle.rules.specs.Choice.{pick}
 use Rattle.rules.specs.Bytes.{AreBytes}
 use Rattle.rules.specs.Validity.{total}
-use Rattle.rules.specs.Clock.{Kind, bus_clock, held_clock, cpu_clock}
+use Rattle.rules.specs.Clock.{bus_clock, held_clock, cpu_clock}
+use Rattle.rules.specs.declared.at_once.Kind.{Kind}
 use Rattle.rules.specs.Buffers.{Store}
 use Rattle.rules.specs.World.{Move}
 use Rattle.rules.specs.Calls.{Answered}

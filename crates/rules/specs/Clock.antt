@@ -11,10 +11,18 @@ use Rattle.rules.specs.Commands.{block_ended, disable, load}
 use Rattle.rules.specs.declared.Port.{Port}
 use Rattle.rules.specs.declared.Clocks.{Clocks}
 use Rattle.rules.specs.declared.Core.{Core}
+use Rattle.rules.specs.declared.at_once.Kind.{Kind}
+use Rattle.rules.specs.declared.at_once.Kind.TheVariants.{Bus, Held, Cpu}
 
--- a clock on the bus, one of waiting with the bus held, or one for the processor
-pub data Kind : Type 0 where
-  bus_clock held_clock cpu_clock : Kind
+-- a clock on the bus, one of waiting with the bus held, and one for the processor
+pattern abbrev pub bus_clock : Kind
+bus_clock = Bus
+
+pattern abbrev pub held_clock : Kind
+held_clock = Held
+
+pattern abbrev pub cpu_clock : Kind
+cpu_clock = Cpu
 
 -- the count of one kind changed, the others as they are
 abbrev pub with_count : Kind → (ℕ → ℕ) → Clocks → Clocks

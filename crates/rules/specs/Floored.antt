@@ -9,7 +9,8 @@ use Rattle.rules.specs.Slots.{new_slot}
 use Rattle.rules.specs.PowerOn.{power_on, no_clocks}
 use Rattle.rules.specs.Validity.{valid_core, valid, total}
 use Rattle.rules.specs.Facts.{InRange}
-use Rattle.rules.specs.Clock.{Kind, bus_clock, cpu_clock, clock_of}
+use Rattle.rules.specs.Clock.{bus_clock, cpu_clock, clock_of}
+use Rattle.rules.specs.declared.at_once.Kind.{Kind}
 use Rattle.rules.specs.Buffers.{Store, flat}
 use Rattle.rules.specs.World.{System, system, clocked}
 use Rattle.rules.specs.Calls.{Answered, accepted, grant}

@@ -11,7 +11,8 @@ use Rattle.rules.specs.Validity.{valid_core}
 use Rattle.rules.specs.Speed.{at_speed}
 use Rattle.rules.specs.Registers.{written}
 use Rattle.rules.specs.Readback.{read_byte}
-use Rattle.rules.specs.Clock.{Kind, bus_clock, Clock, clock_of}
+use Rattle.rules.specs.Clock.{bus_clock, Clock, clock_of}
+use Rattle.rules.specs.declared.at_once.Kind.{Kind}
 use Rattle.rules.specs.Buffers.{Store, Buffers}
 use Rattle.rules.specs.World.{World, Note, step_by, note_by}
 use Rattle.rules.specs.Refusals.{access_refusal_if, speed_refusal_if, grant_refusal_if}

@@ -23,6 +23,7 @@ pub mod Spans
 pub mod Stretches
 pub mod WholeSlots
 pub mod Turns
+pub mod Coded
 pub mod Refusals
 pub mod Calls
 pub mod Keeping

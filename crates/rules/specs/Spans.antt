@@ -3,11 +3,12 @@
 -- Assumes nothing.
 use Rattle.std.specs.Prelude.{ℕ, zero, suc, ◌+◌, ◌≤◌, ◌<◌, ◌≡◌, Bool, true, false, [], ◌∷◌, eqb}
 use Rattle.rules.specs.Choice.{pick, every, any}
-use Rattle.rules.specs.Clock.{Kind, bus_clock, held_clock, cpu_clock, counted_by, clock_of}
+use Rattle.rules.specs.Clock.{bus_clock, held_clock, cpu_clock, counted_by, clock_of}
+use Rattle.rules.specs.declared.at_once.Kind.{Kind}
 use Rattle.rules.specs.Buffers.{Store, source, destination}
 use Rattle.rules.specs.World.{System, system, buffers_after, clocked}
 use Rattle.rules.specs.declared.Core.{Core}
-use Rattle.rules.specs.declared.Span.{Span}
+use Rattle.rules.specs.declared.at_once.Span.{Span}
 
 -- a kind's number in code
 abbrev pub kind_code : Kind → ℕ
@@ -15,7 +16,7 @@ kind_code bus_clock = 0
 kind_code held_clock = 1
 kind_code cpu_clock = 2
 
--- the kind of a number in code
+-- the kind of a number in code: of one that is no kind's, the processor
 unfoldable pub kind_of : ℕ → Kind
 kind_of n = pick (eqb n (kind_code bus_clock)) bus_clock (pick (eqb n (kind_code held_clock)) held_clock cpu_clock)
 
@@ -27,7 +28,7 @@ ticks (suc n) c = (clock_of (ticks n c)).next
 -- n clocks from c on, after which the core is next: of one kind, with the places of c
 abbrev pub span : Kind → ℕ → Bool → Core → Core → Span
 span kind n moves c next =
-    record { kind = kind_code kind; clocks = n; moves = moves; from = source c; to = destination c; next = next }
+    record { kind = kind; clocks = n; moves = moves; from = source c; to = destination c; next = next }
 
 -- a span of a core within a budget: its clocks are of one kind, and one at least if there is a budget; none but the last
 -- moves a byte; its places are the source and the destination of the last, whether or not it does; next is the core after
@@ -35,7 +36,7 @@ span kind n moves c next =
 pub record IsSpan (c : Core) (budget : ℕ) (x : Span) : Type 0 where
   pub within : x.clocks ≤ budget
   pub some : 0 < budget → 0 < x.clocks
-  pub kinds : (i : ℕ) → i < x.clocks → kind_code (clock_of (ticks i c)).kind ≡ x.kind
+  pub kinds : (i : ℕ) → i < x.clocks → (clock_of (ticks i c)).kind ≡ x.kind
   pub quiet : (i : ℕ) → i + 1 < x.clocks → (clock_of (ticks i c)).moves ≡ false
   pub last : (i : ℕ) → i + 1 ≡ x.clocks → (clock_of (ticks i c)).moves ≡ x.moves
   pub source : (i : ℕ) → i + 1 ≡ x.clocks → source (ticks i c) ≡ x.from
@@ -63,7 +64,7 @@ abbrev pub span_passed : {M : Type 0} → Store M → Span → System M → Syst
 span_passed σ x s =
     system x.next
     (buffers_after σ x.moves x.from x.to s.world.buffers)
-    (counted_by (kind_of x.kind) x.clocks s.clocks)
+    (counted_by x.kind x.clocks s.clocks)
 
 -- a span is as many single clocks, over any memory
 pub record SpansAreClocks {M : Type 0} (σ : Store M) : Type 0 where

@@ -10,7 +10,7 @@ use Rattle.rules.specs.Spans.{IsSpan, span_passed}
 use Rattle.rules.specs.WholeSlots.{slots_within, slots_passed}
 use Rattle.rules.specs.declared.Clocks.{Clocks}
 use Rattle.rules.specs.declared.Core.{Core}
-use Rattle.rules.specs.declared.Span.{Span}
+use Rattle.rules.specs.declared.at_once.Span.{Span}
 
 -- a valid core with clocks left, for which the counts have room
 pub record Ready (c : Core) (k : Clocks) (left : ℕ) : Type 0 where

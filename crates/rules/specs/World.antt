@@ -3,7 +3,8 @@
 use Rattle.std.specs.Prelude.{ℕ, zero, suc, Bool}
 use Rattle.std.proofs.Math.Option.{Option, none, some}
 use Rattle.rules.specs.Choice.{pick}
-use Rattle.rules.specs.Clock.{Kind, Clock, clock_of, counted}
+use Rattle.rules.specs.Clock.{Clock, clock_of, counted}
+use Rattle.rules.specs.declared.at_once.Kind.{Kind}
 use Rattle.rules.specs.Buffers.{Store, Buffers, source, destination, byte_at, transfer}
 use Rattle.rules.specs.declared.Place.{Place}
 use Rattle.rules.specs.declared.Clocks.{Clocks}

@@ -1,7 +1,11 @@
-// What the device holds, part by part, and the span of clocks that code takes at once. Every part is plain data, handed over
-// by value; no part is an enum, so that each can cross to C as it stands. The rules over these types are the definitions in
-// specs/.
+// What the device holds, part by part, and what code says of its clocks. Every part is plain data, handed over by value; none
+// is an enum, so that each can cross to C as it stands. `Place`, `Span` and `Kind` are no parts and do not cross. The rules over
+// these types are the definitions in specs/.
 #![tactic(auto)]
+
+mod at_once;
+
+pub use at_once::{Kind, Span};
 
 // One of the device's two ports, A or B.
 #[repr(C)]
@@ -123,27 +127,4 @@ pub struct Core {
     // The device is enabled: a slot is running or about to begin.
     pub enabled: bool,
     pub slot: Slot,
-}
-
-// The kinds of clocks: on the bus, waiting with the bus held, left to the processor.
-pub const BUS: u8 = 0;
-
-pub const HELD: u8 = 1;
-
-pub const CPU: u8 = 2;
-
-// A span of clocks of one kind, on whose last clock a byte may move.
-#[repr(C)]
-#[derive(Clone, Copy)]
-pub struct Span {
-    // BUS, HELD or CPU.
-    pub kind: u8,
-    // How many clocks.
-    pub clocks: u32,
-    // A byte moves on the last clock, from one place to the other.
-    pub moves: bool,
-    pub from: Place,
-    pub to: Place,
-    // The core after the last clock.
-    pub next: Core,
 }

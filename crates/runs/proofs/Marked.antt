@@ -13,7 +13,7 @@ use Rattle.rules.specs.Calls.{Answered}
 use Rattle.rules.specs.Entries.{Poke, flat_outside, Entry, enter, run_over, run}
 use Rattle.rules.proofs.Choice.{pick_cases}
 use Rattle.rules.proofs.Warned.{warning_answered}
-use Rattle.records.specs.declared.Record.{Record}
+use Rattle.records.specs.Records.{Record}
 use Rattle.lines.specs.Lines.{record_line, marked_line, plain_line}
 use Rattle.lines.proofs.Lines.{lines_marked}
 use Rattle.session.specs.Effects.{entry_of, effect}

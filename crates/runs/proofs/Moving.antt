@@ -11,12 +11,10 @@ use Rattle.rules.specs.Choice.{pick}
 use Rattle.rules.specs.Buffers.{Buffers, flat}
 use Rattle.rules.specs.Entries.{Poke, flat_outside, Entry, outside_change, enter}
 use Rattle.rules.proofs.Choice.{pick_true, pick_ap, either}
-use Rattle.records.specs.Records.{record_at, long_length}
+use Rattle.records.specs.Records.{Record, record_at, long_length}
 use Rattle.session.specs.Effects.{pokes, entry_of}
-use Rattle.session.specs.Steps.{Said, Outcome, in_phase, without_line, buffers_kept, last_fault, carried, system_with, version_step, long_step, by_record, record_step, step_of}
+use Rattle.session.specs.Steps.{Session, Said, Outcome, in_phase, without_line, buffers_kept, last_fault, carried, system_with, version_step, long_step, by_record, record_step, step_of}
 use Rattle.runs.specs.Moving.{farther, StepMoves}
-use Rattle.records.specs.declared.Record.{Record}
-use Rattle.session.specs.declared.step.Session.{Session}
 use Rattle.session.proofs.Steps.{without_room, at_version_lem, at_record_lem, at_long, at_over}
 use Rattle.records.proofs.Choosing.{same, lift}
 use Rattle.records.proofs.BigEndian.{byte_moves}

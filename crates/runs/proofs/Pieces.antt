@@ -12,13 +12,11 @@ use Rattle.rules.specs.Choice.{pick}
 use Rattle.rules.specs.Buffers.{Buffers, flat}
 use Rattle.rules.specs.Entries.{Poke, flat_outside, Entry, outside_change, enter}
 use Rattle.rules.proofs.Choice.{pick_true, pick_false, pick_both, pick_cases, either}
-use Rattle.records.specs.Records.{none, of_kind, record_at, long_length}
+use Rattle.records.specs.Records.{Record, none, of_kind, record_at, long_length}
 use Rattle.records.specs.BigEndian.{word}
 use Rattle.session.specs.Effects.{pokes, entry_of}
-use Rattle.session.specs.Steps.{Said, Outcome, in_phase, without_line, buffers_kept, last_fault, last_counts, carried, system_with, version_step, long_step, by_record, record_step, step_of}
+use Rattle.session.specs.Steps.{Session, Said, Outcome, in_phase, without_line, buffers_kept, last_fault, last_counts, carried, system_with, version_step, long_step, by_record, record_step, step_of}
 use Rattle.runs.specs.Pieces.{next, StepStands}
-use Rattle.records.specs.declared.Record.{Record}
-use Rattle.session.specs.declared.step.Session.{Session}
 use Rattle.session.proofs.Steps.{without_room, at_version_lem, at_record_lem, at_long, at_over}
 use Rattle.records.proofs.Choosing.{same}
 use Rattle.records.proofs.Standing.{stands_kind, long_there}

@@ -14,10 +14,9 @@ use Rattle.rules.specs.Choice.{pick}
 use Rattle.rules.specs.Bytes.{AreBytes}
 use Rattle.rules.specs.Entries.{Poke, outside_change}
 use Rattle.rules.proofs.Choice.{pick_true, pick_false, either}
-use Rattle.records.specs.Records.{record_at}
+use Rattle.records.specs.Records.{Record, record_at}
 use Rattle.records.specs.Encoding.{SessionRecord, to_write, to_read, to_grant, to_memory, InRange, kind_and_arguments, record_bytes}
 use Rattle.records.specs.BigEndian.{bytes_of}
-use Rattle.records.specs.declared.Record.{Record}
 use Rattle.records.proofs.Bytes.{bytes_join, bytes_drop}
 use Rattle.records.proofs.Standing.{stands, at_end}
 use Rattle.records.proofs.Moving.{moved, record_moves}

@@ -9,7 +9,7 @@ use Rattle.rules.specs.World.{System}
 use Rattle.rules.specs.Entries.{Poke, flat_outside, Entry, enter, run, run_over}
 use Rattle.rules.specs.Reached.{NoneIs, Lends, WrongMemory, WrongLatches, OwnServe, AsksAbove, OnlyAbove}
 use Rattle.rules.proofs.Reached.{answers_reached}
-use Rattle.records.specs.declared.Record.{Record}
+use Rattle.records.specs.Records.{Record}
 use Rattle.session.specs.Effects.{entry_of}
 use Rattle.runs.specs.Sessions.{start, decoded, entries_of, session_entries}
 use Rattle.runs.specs.Served.{EverySessionServed}

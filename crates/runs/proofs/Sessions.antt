@@ -21,8 +21,7 @@ use Rattle.rules.proofs.Choice.{pick_both, pick_cases, pick_true}
 use Rattle.rules.proofs.Accounts.{demand3}
 use Rattle.rules.proofs.Warned.{warnings_noted}
 use Rattle.rules.proofs.Reached.{every_reached}
-use Rattle.records.specs.Records.{record_at}
-use Rattle.records.specs.declared.Record.{Record}
+use Rattle.records.specs.Records.{Record, record_at}
 use Rattle.records.proofs.Choosing.{both}
 use Rattle.records.proofs.Standing.{stands, at_end, small_byte}
 use Rattle.lines.specs.Lines.{counts_line, fault_line}

@@ -15,13 +15,12 @@ use Rattle.rules.specs.Calls.{Answer}
 use Rattle.rules.proofs.Choice.{pick_true, pick_false, either, clash}
 use Rattle.zxndma.specs.Answers.{device_at_power_on}
 use Rattle.zxndma.specs.declared.Device.{Device}
-use Rattle.records.specs.Records.{none, record_at, long_length}
+use Rattle.records.specs.Records.{Record, none, record_at, long_length}
 use Rattle.lines.specs.Lines.{counts_line, fault_line}
 use Rattle.session.specs.Effects.{effect}
 use Rattle.session.specs.Steps.{Said, Outcome, in_phase, session_at_start, device_of, answer_line, system_with, carried, last_counts, last_fault, without_line, buffers_kept, version_step, long_step, by_record, record_step, step_of}
 use Rattle.runs.specs.Sessions.{Decoded, decoded_from, decoded, Ended, start, session}
 use Rattle.runs.specs.Stepping.{ended_by, line_before, line_in, system_in, steps_from, StepsRead}
-use Rattle.records.specs.declared.Record.{Record}
 use Rattle.records.proofs.Choosing.{both}
 use Rattle.records.proofs.Standing.{Stands, stands, at_end, short_end, long, record_whole, record_cut}
 use Rattle.lines.proofs.Lines.{put_taken, placed_size, number_room, record_room, counts_room}

@@ -3,11 +3,10 @@
 use Rattle.std.specs.Prelude.{ℕ, ◌≡◌, List, [], ◌∷◌, ◌++◌, eqb}
 use Rattle.rules.specs.Choice.{pick}
 use Rattle.rules.specs.Calls.{Answered}
-use Rattle.records.specs.Records.{write_kind}
+use Rattle.records.specs.Records.{Record, write_kind}
 use Rattle.lines.specs.Lines.{marked_line, plain_line}
 use Rattle.session.specs.Steps.{answer_line}
 use Rattle.runs.specs.Sessions.{decoded, run_of, last_line, session}
-use Rattle.records.specs.declared.Record.{Record}
 
 -- the line of a record by its answer: without a warning the one of before; where there is a warning the record is a port write
 -- that was accepted, and the line is the marked one

@@ -2,8 +2,7 @@
 -- Assumes nothing.
 use Rattle.std.specs.Prelude.{ℕ, ◌+◌, ◌≡◌, Bool, List, drop}
 use Rattle.rules.specs.Buffers.{Buffers}
-use Rattle.session.specs.Steps.{Outcome, step_of}
-use Rattle.session.specs.declared.step.Session.{Session}
+use Rattle.session.specs.Steps.{Session, Outcome, step_of}
 
 -- an outcome whose next place lies so much farther on
 abbrev pub farther : ℕ → Outcome → Outcome

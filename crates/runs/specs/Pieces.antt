@@ -2,8 +2,7 @@
 -- Assumes nothing.
 use Rattle.std.specs.Prelude.{ℕ, ◌≡◌, Bool, false, List, ◌++◌}
 use Rattle.rules.specs.Buffers.{Buffers}
-use Rattle.session.specs.Steps.{needs_bytes, Outcome, step_of}
-use Rattle.session.specs.declared.step.Session.{Session}
+use Rattle.session.specs.Steps.{Session, needs_bytes, Outcome, step_of}
 
 -- the step that goes on from an outcome, with these bytes at hand
 abbrev pub next : Outcome → List ℕ → Bool → Outcome

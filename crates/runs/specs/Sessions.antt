@@ -13,11 +13,10 @@ use Rattle.rules.specs.Splitting.{SplitsAt}
 use Rattle.rules.specs.Accounts.{Accounted}
 use Rattle.rules.specs.Reached.{Reached}
 use Rattle.rules.specs.Warned.{warnings_of, warnings_along}
-use Rattle.records.specs.Records.{version, no_version, input_ends, record_at}
+use Rattle.records.specs.Records.{Record, version, no_version, input_ends, record_at}
 use Rattle.lines.specs.Lines.{counts_line, fault_line}
 use Rattle.session.specs.Effects.{entry_of}
 use Rattle.session.specs.Steps.{answer_line}
-use Rattle.records.specs.declared.Record.{Record}
 
 -- ---- decode: the records of a session's bytes
 

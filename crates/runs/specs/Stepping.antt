@@ -5,8 +5,7 @@ use Rattle.rules.specs.Choice.{pick}
 use Rattle.rules.specs.Buffers.{Buffers}
 use Rattle.rules.specs.World.{System}
 use Rattle.lines.specs.Lines.{room}
-use Rattle.session.specs.Steps.{is_over, Outcome, session_at_start, system_with, step_of}
-use Rattle.session.specs.declared.step.Session.{Session}
+use Rattle.session.specs.Steps.{Session, is_over, Outcome, session_at_start, system_with, step_of}
 use Rattle.runs.specs.Sessions.{Ended, start, session}
 
 -- what a session comes to with these lines; and with a line in front

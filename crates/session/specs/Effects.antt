@@ -6,10 +6,7 @@ use Rattle.rules.specs.Buffers.{flat}
 use Rattle.rules.specs.World.{System}
 use Rattle.rules.specs.Calls.{Answer}
 use Rattle.rules.specs.Entries.{Poke, flat_outside, Entry, port_write, port_read, clock_grant, outside_change, enter}
-use Rattle.zxndma.specs.Answers.{system_of}
-use Rattle.records.specs.Records.{write_kind, read_kind, grant_kind, memory_kind}
-use Rattle.records.specs.declared.Record.{Record}
-use Rattle.session.specs.declared.effect.Effect.{Effect}
+use Rattle.records.specs.Records.{Record, write_kind, read_kind, grant_kind, memory_kind}
 
 -- so many bytes from place p on, put into memory from an address on; addresses wrap at 65,536
 unfoldable pub pokes : ℕ → List ℕ → ℕ → ℕ → List Poke
@@ -29,11 +26,3 @@ entry_of xs r =
 -- a record's effect
 abbrev pub effect : List ℕ → Record → System (List ℕ) → Answer (List ℕ)
 effect xs r s = enter flat flat_outside (entry_of xs r) s
-
--- the answer in code, with both buffers as they are left
-abbrev pub effect_answer : Effect → List ℕ → List ℕ → Answer (List ℕ)
-effect_answer e m l =
-    record {
-      answered = record { number = e.number; byte = e.byte; warning = e.warning };
-      system = system_of e.device m l;
-    }

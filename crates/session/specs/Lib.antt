@@ -1,2 +1,4 @@
 pub mod Effects
 pub mod Steps
+pub mod Numbers
+pub mod Phases

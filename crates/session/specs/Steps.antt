@@ -9,12 +9,25 @@ use Rattle.rules.specs.World.{System}
 use Rattle.rules.specs.Calls.{Answered, Answer}
 use Rattle.zxndma.specs.Answers.{device_at_power_on, system_of}
 use Rattle.zxndma.specs.declared.Device.{Device}
-use Rattle.records.specs.Records.{version, no_version, more_needed, input_ends, cut_short, wrong_record, record_at, long_length}
+use Rattle.records.specs.Records.{Record, version, no_version, more_needed, input_ends, cut_short, wrong_record, record_at, long_length}
 use Rattle.lines.specs.Lines.{record_line, counts_line, fault_line, room}
 use Rattle.session.specs.Effects.{effect}
-use Rattle.records.specs.declared.Record.{Record}
-use Rattle.session.specs.declared.step.Session.{Session}
-use Rattle.session.specs.declared.step.Step.{Step}
+
+-- a session on its way: its phase; within a record that is too long for any kind, the bytes of the record still to come, else
+-- 0; its device
+pub record Session : Type 0 where
+  pub phase : ℕ
+  pub left : ℕ
+  pub device : Device
+
+-- the answer of a step: how it goes on; the fault that ended the session, else 0; the place behind the bytes taken; the length
+-- of the line written, 0 for none; the session
+pub record Step : Type 0 where
+  pub progress : ℕ
+  pub fault : ℕ
+  pub next : ℕ
+  pub length : ℕ
+  pub session : Session
 
 -- a step's answer, and the slice for its line as the step leaves it
 pub record Said : Type 0 where
@@ -147,7 +160,7 @@ step_of s xs p ended out b =
     (pick (s.phase == at_record) (record_step s xs p ended out b)
     (pick (s.phase == in_long) (buffers_kept b (long_step s xs p ended out)) (buffers_kept b (without_line is_over p s out)))))
 
--- the answer in code, with the slices as they are left
+-- a step, with the slices as they are left
 abbrev pub said : Step → List ℕ → Said
 said step line = record { step = step; line = line }
 

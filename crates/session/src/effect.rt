@@ -1,90 +1,79 @@
 // What a record does to device, memory and latches.
-ghost use Rattle.std.specs.Prelude.{◌≡◌, ◌-◌};
+ghost use Rattle.std.specs.Prelude.{◌≡◌, length};
 ghost use Rattle.rules.specs.Entries.{poked};
 ghost use Rattle.zxndma.specs.Answers.{system_of};
-ghost use Rattle.session.specs.Effects.{pokes, effect_answer};
-ghost use Rattle.session.specs.Effects.{effect as effect_of};
+ghost use Rattle.records.specs.Found.{record_before};
+ghost use Rattle.lines.specs.Line.{bytes_of};
+ghost use Rattle.session.specs.Effects.{pokes};
+ghost use Rattle.session.specs.Steps.{answer_line};
+ghost use Rattle.session.specs.Numbers.{effect_found};
 
-use parts::{bytes, warning};
+use lines::Line;
+use parts::bytes;
 use records::Record;
 use zxndma::Device;
 
-// What a record is answered with: its number, the byte of a port read, the warning of a port write, and the device afterwards.
+// The line of what a record is answered, and the device afterwards.
 #[derive(Clone, Copy)]
 pub struct Effect {
-    pub number: u8,
-    pub byte: u8,
-    pub warning: u8,
+    pub line: Line,
     pub device: Device,
 }
 
-// The bytes from `start` up to `end` are put into memory from an address on, which wraps.
-fn poke(input: &[u8], start: usize, end: usize, memory: &mut [u8], address: u16)
-    ensures { memory.new ≡ poked (pokes (end - start) input.now start address) memory.old }
+// These bytes are put into memory from an address on, which is counted beside them since it wraps, as no range does.
+#[tactic(auto, using(crate::proofs::Effects::poking_more, crate::proofs::Effects::poking_end))]
+fn poke(given: &[u8], memory: &mut [u8], address: u16)
+    ensures { memory.new ≡ poked (pokes (length given.now) given.now 0 address) memory.old }
 {
-    let mut at = start;
     let mut to = address;
-    while at < end {
-        let byte = bytes::byte_at(input, at);
-        bytes::put(memory, records::index(to), byte);
-        to = std::num::wrapping_add_u16(to, 1);
-        at += 1;
+    for byte in given {
+        bytes::put(memory, usize::from(to), *byte);
+        to = to.wrapping_add(1);
     }
 }
 
-// A record is carried out.
-pub fn carry_out(
-    found: Record,
-    input: &[u8],
-    device: Device,
-    memory: &mut [u8],
-    latches: &mut [u8],
-) -> Effect
-    ensures { effect_answer result memory.new latches.new ≡ effect_of input.now found (system_of device memory.old latches.old) }
+// A record is carried out. It takes memory and latches one by one, as `Device::grant` does.
+#[tactic(auto, using(crate::proofs::Effects::write_said, crate::proofs::Effects::read_said))]
+pub fn carry_out(found: Record<'_>, device: Device, memory: &mut [u8], latches: &mut [u8]) -> Effect
+    ensures line { bytes_of result.line ≡ answer_line (record_before 0 found.entry) (effect_found found.entry (system_of device memory.old latches.old)).answered }
+    ensures system { system_of result.device memory.new latches.new ≡ (effect_found found.entry (system_of device memory.old latches.old)).system }
 {
-    if found.number == records::WRITE {
-        let answer = device.write(found.word, found.byte);
-        let after = answer.device;
-        return Effect {
-            number: answer.number,
-            byte: 0,
-            warning: answer.warning,
-            device: after,
-        };
-    }
-    if found.number == records::READ {
-        let answer = device.read(found.word);
-        let after = answer.device;
-        return Effect {
-            number: answer.number,
-            byte: answer.byte,
-            warning: warning::NONE,
-            device: after,
-        };
-    }
-    if found.number == records::GRANT {
-        let answer = device.grant(memory, latches, found.clocks);
-        let after = answer.device;
-        return Effect {
-            number: answer.number,
-            byte: 0,
-            warning: warning::NONE,
-            device: after,
-        };
-    }
-    if found.number == records::MEMORY {
-        poke(input, found.start, found.next, memory, found.word);
-        return Effect {
-            number: 0,
-            byte: 0,
-            warning: warning::NONE,
-            device,
-        };
-    }
-    Effect {
-        number: 0,
-        byte: 0,
-        warning: warning::NONE,
-        device,
+    match found {
+        Record::Write { port, byte } => {
+            let answer = device.write(port, byte);
+            Effect {
+                line: Line::Write {
+                    number: answer.number,
+                    warning: answer.warning,
+                },
+                device: answer.device,
+            }
+        }
+        Record::Read { port } => {
+            let answer = device.read(port);
+            Effect {
+                line: Line::Read {
+                    number: answer.number,
+                    byte: answer.byte,
+                },
+                device: answer.device,
+            }
+        }
+        Record::Grant { clocks } => {
+            let answer = device.grant(memory, latches, clocks);
+            Effect {
+                line: Line::Grant {
+                    number: answer.number,
+                },
+                device: answer.device,
+            }
+        }
+        Record::Memory { address, bytes } => {
+            poke(bytes, memory, address);
+            Effect {
+                line: Line::Memory { number: 0 },
+                device,
+            }
+        }
     }
 }

@@ -6,6 +6,7 @@ use Rattle.rules.specs.World.{System, system}
 use Rattle.rules.specs.Calls.{Reply, Answer}
 use Rattle.rules.specs.declared.Clocks.{Clocks}
 use Rattle.rules.specs.declared.Core.{Core}
+use Rattle.clocking.specs.declared.transfer.Lent.{Lent}
 use Rattle.zxndma.specs.declared.Device.{Device}
 use Rattle.zxndma.specs.declared.WriteAnswer.{WriteAnswer}
 use Rattle.zxndma.specs.declared.ReadAnswer.{ReadAnswer}
@@ -34,6 +35,10 @@ speed_answer r = record { number = r.answered.number; device = device r.core r.c
 -- a device beside the two buffers that a caller lends
 abbrev pub system_of : Device → List ℕ → List ℕ → System (List ℕ)
 system_of d m l = system d.core (record { memory = m; latches = l }) d.clocks
+
+-- a device beside the buffers that are lent
+abbrev pub lent_system : Device → Lent → System (List ℕ)
+lent_system d x = system_of d x.memory.now x.latches.now
 
 -- the answer to a grant, without a byte and without a warning, with both buffers as the call leaves them
 abbrev pub grant_answer : GrantAnswer → List ℕ → List ℕ → Answer (List ℕ)

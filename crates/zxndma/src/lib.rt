@@ -2,25 +2,30 @@
 // with the answer; a refused call hands it back as it came.
 #![tactic(auto)]
 
-ghost use Rattle.std.specs.Prelude.{◌≡◌, ◌*◌, ◌-◌, ◌<◌};
-ghost use Rattle.rules.specs.Validity.{total, valid};
+ghost use Rattle.std.specs.Prelude.{◌≡◌, ◌+◌, ◌*◌, ◌-◌, ◌<◌, ◌≤◌};
+ghost use Rattle.rules.specs.Validity.{total, most64, valid};
 ghost use Rattle.rules.specs.Floor.{cpu_floor};
 ghost use Rattle.rules.specs.Buffers.{length_refusal, flat};
 ghost use Rattle.rules.specs.World.{clocked};
-ghost use Rattle.rules.specs.Refusals.{lent_refusal, grant_refusal};
+ghost use Rattle.rules.specs.Refusals.{access_refusal, lent_refusal, grant_refusal};
 ghost use Rattle.rules.specs.Calls.{write_reply, read_reply, speed_reply, grant};
 ghost use Rattle.rules.specs.Parts.{with_slot};
 ghost use Rattle.rules.specs.Slots.{new_slot};
 ghost use Rattle.rules.specs.Clock.{cpu_clock, kind_at};
 ghost use Rattle.rules.specs.WholeSlots.{slots_within, slots_passed};
-ghost use Rattle.rules.specs.Turns.{Ready, Passed};
-ghost use Rattle.clocking.specs.Answers.{borrowed, counted_within};
-ghost use Rattle.zxndma.specs.Answers.{device, device_at_power_on, write_answer, read_answer, speed_answer, system_of, grant_answer};
+ghost use Rattle.rules.specs.Facts.{Kept};
+ghost use Rattle.rules.specs.Turns.{Passed};
+ghost use Rattle.clocking.specs.Answers.{counted_within};
+ghost use Rattle.clocking.specs.Lent.{buffers_of, SameLent};
+ghost use Rattle.parts.specs.Numbers.{refusal_number};
+ghost use Rattle.zxndma.specs.Answers.{device, device_at_power_on, write_answer, read_answer, speed_answer, system_of, lent_system, grant_answer};
 
-use clocking::{clock, count, slots, span, stretch, transfer};
-use parts::{part, power_on, refusal, slot, valid, warning};
+use clocking::transfer::Lent;
+use clocking::{clock, count, slots, span, stretch};
+use parts::refusal::{self, Refusal};
+use parts::{power_on, slot, valid, warning};
 use registers::{readback, register};
-use rules::{Clocks, Core, Slot};
+use rules::{Clocks, Core, Kind, Slot};
 
 // A zxnDMA: its core and its clock counts (document 01: books). Any content is a device; the calls refuse an invalid one.
 #[repr(C)]
@@ -76,30 +81,22 @@ pub struct GrantAnswer {
     pub device: Device,
 }
 
-// A device on the way through a grant, and the clocks left.
-#[derive(Clone, Copy)]
-struct Progress {
-    device: Device,
-    left: u32,
-}
-
 impl Device {
     // A device as it is when power comes on.
     pub fn power_on() -> Self
         ensures { result ≡ device_at_power_on }
     {
-        let core = power_on::core();
-        let clocks = power_on::no_clocks();
-        Device { core, clocks }
+        Device {
+            core: power_on::core(),
+            clocks: power_on::no_clocks(),
+        }
     }
 
     // The device is valid: no call refuses it with 1.
     pub fn is_valid(self) -> bool
         ensures { result ≡ valid self.core (total self.clocks) }
     {
-        let core = self.core;
-        let clocks = self.clocks;
-        valid::is_valid(core, clocks)
+        valid::is_valid(self.core, self.clocks)
     }
 
     // A floor under the processor's time: among any so many clocks in a row, the next one or a later one being the first, one
@@ -109,78 +106,74 @@ impl Device {
     pub fn cpu_floor(self) -> u32
         ensures { result ≡ cpu_floor self.core (total self.clocks) }
     {
-        let core = self.core;
-        let clocks = self.clocks;
-        floor::cpu_floor(core, clocks)
+        floor::cpu_floor(self.core, self.clocks)
     }
 
     // A byte is written to the DMA's port: the port number's low byte is 6B (zxn mode) or 0B (Zilog mode). Refused with 1, 2
-    // or 3, and then there is no warning and nothing changes.
+    // or 3, and then there is no warning and nothing changes. Here and in a read each outcome makes its answer: with one made at the
+    // end, as in `set_speed`, a write in place takes 91 instructions more, and a read by value 60.
+    #[tactic(auto, unfolding(rules::specs::Calls::write_reply_over, rules::specs::Refusals::access_refusal_if, rules::specs::Calls::unless_refused, rules::specs::Choice::pick))]
     pub fn write(self, port: u16, byte: u8) -> WriteAnswer
         ensures { result ≡ write_answer (write_reply self.core self.clocks port byte) }
     {
-        let core = self.core;
-        let clocks = self.clocks;
-        let valid = self.is_valid();
-        let held = slot::holds_bus(core);
-        let number = refusal::access_number(valid, held, port);
-        if number == 0 {
-            let decoded = register::write(port, byte, core);
-            let next = decoded.core;
-            let device = Device { core: next, clocks };
-            return WriteAnswer {
-                number: 0,
-                warning: decoded.warning,
-                device,
-            };
-        }
-        WriteAnswer {
-            number,
-            warning: warning::NONE,
-            device: self,
+        match refusal::access(self.is_valid(), slot::holds_bus(self.core), port) {
+            Ok(()) => {
+                let decoded = register::write(port, byte, self.core);
+                WriteAnswer {
+                    number: 0,
+                    warning: warning::number_of(decoded.warning),
+                    device: Device {
+                        core: decoded.core,
+                        clocks: self.clocks,
+                    },
+                }
+            }
+            Err(refusal) => WriteAnswer {
+                number: refusal.into(),
+                warning: warning::NONE,
+                device: self,
+            },
         }
     }
 
     // A byte is read from a port. Refused with 1, 2 or 3, and then the byte is 0 and nothing changes.
+    #[tactic(auto, unfolding(rules::specs::Calls::read_reply_over, rules::specs::Refusals::access_refusal_if, rules::specs::Calls::unless_refused, rules::specs::Choice::pick))]
     pub fn read(self, port: u16) -> ReadAnswer
         ensures { result ≡ read_answer (read_reply self.core self.clocks port) }
     {
-        let core = self.core;
-        let clocks = self.clocks;
-        let valid = self.is_valid();
-        let held = slot::holds_bus(core);
-        let number = refusal::access_number(valid, held, port);
-        if number == 0 {
-            let given = readback::read(core);
-            let next = given.core;
-            let device = Device { core: next, clocks };
-            return ReadAnswer {
-                number: 0,
-                byte: given.byte,
-                device,
-            };
-        }
-        ReadAnswer {
-            number,
-            byte: 0,
-            device: self,
+        match refusal::access(self.is_valid(), slot::holds_bus(self.core), port) {
+            Ok(()) => {
+                let given = readback::read(self.core);
+                ReadAnswer {
+                    number: 0,
+                    byte: given.byte,
+                    device: Device {
+                        core: given.core,
+                        clocks: self.clocks,
+                    },
+                }
+            }
+            Err(refusal) => ReadAnswer {
+                number: refusal.into(),
+                byte: 0,
+                device: self,
+            },
         }
     }
 
     // The speed of the processor becomes that of a code: 0 is 3.5 MHz, 1 is 7, 2 is 14 and 3 is 28. Whoever has the bus; a slot
     // that runs keeps its figures. Refused with 1 or 7, and then nothing changes.
-    pub fn set_speed(self, code: u8) -> SpeedAnswer
+    #[tactic(auto, unfolding(rules::specs::Calls::speed_reply_over, rules::specs::Refusals::speed_refusal_if, rules::specs::Calls::unless_refused, rules::specs::Choice::pick))]
+    pub fn set_speed(mut self, code: u8) -> SpeedAnswer
         ensures { result ≡ speed_answer (speed_reply self.core self.clocks code) }
     {
-        let core = self.core;
-        let clocks = self.clocks;
-        let valid = self.is_valid();
-        let number = refusal::speed_number(valid, code);
-        if number == 0 {
-            let next = part::at_speed(code, core);
-            let device = Device { core: next, clocks };
-            return SpeedAnswer { number: 0, device };
-        }
+        let number = match refusal::speed(self.is_valid(), code) {
+            Ok(()) => {
+                self.core.control.speed = code;
+                0
+            }
+            Err(refusal) => refusal.into(),
+        };
         SpeedAnswer {
             number,
             device: self,
@@ -192,160 +185,152 @@ impl Device {
     pub fn grant(self, memory: &mut [u8], latches: &mut [u8], clocks: u32) -> GrantAnswer
         ensures { grant_answer result memory.new latches.new ≡ grant flat (system_of self memory.old latches.old) clocks }
     {
-        let number = self.grant_number(memory.len(), latches.len(), clocks);
-        if number == 0 {
-            let device = self.spend(memory, latches, clocks);
-            return GrantAnswer { number: 0, device };
+        if let Err(refusal) = self.grantable(memory.len(), latches.len(), clocks) {
+            return GrantAnswer {
+                number: refusal.into(),
+                device: self,
+            };
         }
-        GrantAnswer {
-            number,
-            device: self,
-        }
+        let mut lent = Lent { memory, latches };
+        let device = self.spend(&mut lent, clocks);
+        GrantAnswer { number: 0, device }
     }
 
-    // Why a grant is refused, 0 for accepted. The sum of a valid device's counts is within 64 bits, so that no sum wraps.
-    fn grant_number(self, memory: usize, latches: usize, clocks: u32) -> u8
-        ensures { result ≡ lent_refusal self.core (total self.clocks) (length_refusal memory) latches clocks }
+    // Whether a grant is accepted. The sum of a valid device's counts is within 64 bits, so that no sum wraps.
+    fn grantable(self, memory: usize, latches: usize, clocks: u32) -> Result<(), Refusal>
+        ensures { refusal_number result ≡ lent_refusal self.core (total self.clocks) (length_refusal memory) latches clocks }
     {
-        let counts = self.clocks;
         if !self.is_valid() {
-            return 1;
+            return Err(Refusal::InvalidDevice);
         }
         if memory != 65536 {
-            return 4;
+            return Err(Refusal::MemoryLength);
         }
         if latches != 65536 {
-            return 5;
+            return Err(Refusal::LatchesLength);
         }
-        let sum = counts.bus + counts.held + counts.cpu;
-        if valid::MOST - sum < clocks as u64 {
-            return 6;
+        let sum = self.clocks.bus + self.clocks.held + self.clocks.cpu;
+        if u64::MAX - sum < u64::from(clocks) {
+            return Err(Refusal::TooManyClocks);
         }
-        0
+        Ok(())
     }
 
     // The clocks of an accepted grant: at once where no byte moves and no slot ends on them.
-    fn spend(self, memory: &mut [u8], latches: &mut [u8], clocks: u32) -> Device
-        requires { grant_refusal flat self.core (total self.clocks) (borrowed memory.old latches.old) clocks ≡ 0 }
-        ensures { system_of result memory.new latches.new ≡ clocked flat clocks (system_of self memory.old latches.old) }
+    fn spend(self, lent: &mut Lent, clocks: u32) -> Self
+        requires { grant_refusal flat self.core (total self.clocks) (buffers_of lent.old) clocks ≡ 0 }
+        ensures same { SameLent lent.old lent.new }
+        ensures passed { lent_system result lent.new ≡ clocked flat clocks (lent_system self lent.old) }
     {
+        // Early returns: one choice between three devices takes 15 to 23 instructions more in a grant that moves a byte.
         if !self.core.enabled {
             return self.idle(clocks);
         }
-        let core = self.core;
-        let wait = stretch::wait_within(clocks, core);
-        if wait.quiet {
-            let slot = wait.slot;
+        if let Some(slot) = stretch::wait_within(clocks, self.core) {
             return self.wait(clocks, slot);
         }
-        self.run(memory, latches, clocks)
+        self.run(lent, clocks)
     }
 
     // Clocks of a disabled device.
-    fn idle(self, clocks: u32) -> Device
+    fn idle(mut self, clocks: u32) -> Self
         ensures { result ≡ device self.core (counted_within cpu_clock clocks self.clocks) }
     {
-        let core = self.core;
-        let counts = self.clocks;
-        let counted = count::add(rules::CPU, clocks, counts);
-        Device {
-            core,
-            clocks: counted,
-        }
+        self.clocks = count::add(Kind::Cpu, u64::from(clocks), self.clocks);
+        self
     }
 
     // Clocks after which the slot is this one and nothing else has happened.
-    fn wait(self, clocks: u32, slot: Slot) -> Device
+    fn wait(mut self, clocks: u32, slot: Slot) -> Self
         ensures { result ≡ device (with_slot slot self.core) (counted_within (kind_at slot.elapsed (with_slot slot self.core)) clocks self.clocks) }
     {
-        let core = self.core;
-        let counts = self.clocks;
-        let mut next = core;
-        next.slot = slot;
-        let kind = clock::kind_at(slot.elapsed, next);
-        let counted = count::add(kind, clocks, counts);
-        Device {
-            core: next,
-            clocks: counted,
-        }
+        self.core.slot = slot;
+        let kind = clock::kind_at(slot.elapsed, self.core);
+        self.clocks = count::add(kind, u64::from(clocks), self.clocks);
+        self
     }
 
     // The clocks of an accepted grant, turn after turn.
-    fn run(self, memory: &mut [u8], latches: &mut [u8], clocks: u32) -> Device
-        requires { grant_refusal flat self.core (total self.clocks) (borrowed memory.old latches.old) clocks ≡ 0 }
-        ensures { system_of result memory.new latches.new ≡ clocked flat clocks (system_of self memory.old latches.old) }
+    fn run(self, lent: &mut Lent, clocks: u32) -> Self
+        requires { grant_refusal flat self.core (total self.clocks) (buffers_of lent.old) clocks ≡ 0 }
+        ensures same { SameLent lent.old lent.new }
+        ensures passed { lent_system result lent.new ≡ clocked flat clocks (lent_system self lent.old) }
     {
-        let mut device = self;
-        let mut left = clocks;
-        while 0 < left {
-            let passed = device.turn(memory, latches, left);
-            device = passed.device;
-            left = passed.left;
+        let mut progress = Progress {
+            device: self,
+            left: clocks,
+        };
+        while 0 < progress.left {
+            progress = progress.turn(lent);
         }
-        device
+        progress.device
     }
+}
 
+// A device on the way through a grant, and the clocks left.
+#[derive(Clone, Copy)]
+struct Progress {
+    device: Device,
+    left: u32,
+    ghost kept: { Kept device.core },
+    ghost room: { total device.clocks + left ≤ most64 },
+}
+
+impl Progress {
     // Some of the clocks left pass: whole slots where there are any, else a span.
-    fn turn(self, memory: &mut [u8], latches: &mut [u8], left: u32) -> Progress
-        requires { Ready self.core self.clocks left }
-        ensures { Passed flat (system_of self memory.old latches.old) (system_of result.device memory.new latches.new) left result.left }
+    fn turn(self, lent: &mut Lent) -> Self
+        requires { 0 < self.left }
+        ensures same { SameLent lent.old lent.new }
+        ensures passed { Passed flat (lent_system self.device lent.old) (lent_system result.device lent.new) self.left result.left }
     {
-        let core = self.core;
-        let slots = slots::slots_within(core, left);
+        let slots = slots::slots_within(self.device.core, self.left);
         if 0 < slots {
-            return self.pass_slots(memory, latches, left, slots);
+            self.pass_slots(lent, slots)
+        } else {
+            self.pass_span(lent)
         }
-        self.pass_span(memory, latches, left)
     }
 
     // All the whole slots that the clocks left have room for.
-    fn pass_slots(self, memory: &mut [u8], latches: &mut [u8], left: u32, slots: u32) -> Progress
-        requires { Ready self.core self.clocks left × (slots ≡ slots_within self.core left) × (0 < slots) }
-        ensures { (system_of result.device memory.new latches.new ≡ slots_passed flat slots (system_of self memory.old latches.old)) × (result.left ≡ left - slots * (new_slot self.core).length) }
+    fn pass_slots(self, lent: &mut Lent, slots: u32) -> Self
+        requires { (slots ≡ slots_within self.device.core self.left) × (0 < slots) }
+        ensures same { SameLent lent.old lent.new }
+        ensures passed { lent_system result.device lent.new ≡ slots_passed flat slots (lent_system self.device lent.old) }
+        ensures left { result.left ≡ self.left - slots * (new_slot self.device.core).length }
     {
-        let core = self.core;
-        let counts = self.clocks;
+        let Device { mut core, clocks } = self.device;
         let slot = slot::new_slot(core);
         let spent = slots::clocks_of(slots, slot);
-        let rest = left - (spent as u32);
-        let counter = core.block.counter + slots;
-        let counted = slots::count_slots(slots, slot, counts);
-        let ports = slots::move_bytes(core, memory, latches, slots);
-        let a = ports.a;
-        let b = ports.b;
-        let mut moved = core;
-        moved.a = a;
-        moved.b = b;
-        moved.block.counter = counter;
-        moved.status.t = true;
-        let next = clock::end_slot(moved);
-        let device = Device {
-            core: next,
-            clocks: counted,
-        };
-        Progress { device, left: rest }
+        let counted = slots::count_slots(slots, slot, clocks);
+        let ports = slots::move_bytes(core, lent, slots);
+        core.a = ports.a;
+        core.b = ports.b;
+        core.block.counter += slots;
+        core.status.t = true;
+        let next = clock::end_slot(core);
+        Progress {
+            device: Device {
+                core: next,
+                clocks: counted,
+            },
+            left: self.left - spent as u32,
+        }
     }
 
     // The next span of the clocks left.
-    fn pass_span(self, memory: &mut [u8], latches: &mut [u8], left: u32) -> Progress
-        requires { Ready self.core self.clocks left }
-        ensures { Passed flat (system_of self memory.old latches.old) (system_of result.device memory.new latches.new) left result.left }
+    fn pass_span(self, lent: &mut Lent) -> Self
+        requires { 0 < self.left }
+        ensures same { SameLent lent.old lent.new }
+        ensures passed { Passed flat (lent_system self.device lent.old) (lent_system result.device lent.new) self.left result.left }
     {
-        let core = self.core;
-        let counts = self.clocks;
-        let span = span::next_span(core, left);
-        let from = span.from;
-        let to = span.to;
-        transfer::move_if(span.moves, memory, latches, from, to);
-        let counted = count::add(span.kind, span.clocks, counts);
-        let next = span.next;
-        let device = Device {
-            core: next,
-            clocks: counted,
-        };
+        let span = span::next_span(self.device.core, self.left);
+        lent.move_if(span.moves, span.from, span.to);
         Progress {
-            device,
-            left: left - span.clocks,
+            device: Device {
+                core: span.next,
+                clocks: count::add(span.kind, u64::from(span.clocks), self.device.clocks),
+            },
+            left: self.left - span.clocks,
         }
     }
 }

@@ -1,22 +1,25 @@
--- Turn follows turn from the start; they are counted down.
+-- Turn follows turn from the start.
 -- Assumes nothing.
-use native.Mathlib.Omega.{arith}
-use borrow.Author.Tests.{not-false, not-true}
-use Rattle.bench.proofs.Turning.{running_start, running_more, running_end}
+use Rattle.std.proofs.Common.{arith}
+use Rattle.bench.proofs.Turning.{running_start, running_more, running_stop, running_end}
 use Rattle.bench.proofs.run.Goals as goal
 
-pub loop-turns-init : goal.loop-turns-init
-loop-turns-init g c =
-    running_start c.args.memory.now c.args.latches.now c.start-session.ensures
+pub loop-init : goal.loop-init
+loop-init g c =
+    running_start _ _ c.start-state.ensures
 
-pub loop-turns-preserved : goal.loop-turns-preserved
-loop-turns-preserved g c =
-    running_more c.loop-turns.invariant c.loop-turns-test.true (not-true _ c.if-not-state.true) c.turn-state.ensures
+pub returns-in_err-next : goal.returns-in_err-next
+returns-in_err-next g c =
+    running_stop c.loop.invariant c.turn.ensures.turned (rw c.in_err-next.was at c.turn.ensures.answered)
 
-pub returns-else-not-state : goal.returns-else-not-state
-returns-else-not-state g c =
-    running_end c.loop-turns.invariant (λ _. not-false _ c.if-not-state.false)
+pub returns-in_default : goal.returns-in_default
+returns-in_default g c =
+    running_stop c.loop.invariant c.turn.ensures.turned (rw (c.in_ok-next.was, c.in_default.is) at c.turn.ensures.answered)
 
-pub returns-after-loop-turns : goal.returns-after-loop-turns
-returns-after-loop-turns g c =
-    running_end c.loop-turns.invariant (λ n. absurd (omega (arith, n, c.loop-turns-test.false)))
+pub loop-preserved : goal.loop-preserved
+loop-preserved g c =
+    running_more c.loop.invariant c.turn.ensures.turned (rw (c.in_ok-next.was, c.in-Some.is) at c.turn.ensures.answered)
+
+pub returns : goal.returns
+returns g c =
+    running_end c.loop.invariant (omega (arith, c.loop-test.false))

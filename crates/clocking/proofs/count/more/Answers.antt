@@ -1,16 +1,10 @@
--- Each branch is its choice; the sum fits where it is taken.
+-- The sum is taken where it fits.
 -- Assumes nothing.
-use Rattle.rules.specs.Choice.{pick}
-use Rattle.clocking.specs.Answers.{added}
-use borrow.Author.Tests.{lt-leb, le-leb}
+use borrow.Author.Rules.{rules}
+use mathlib.Core.Path.{◌∙◌}
+use Rattle.clocking.proofs.Counts.{sum_or_count}
 use Rattle.clocking.proofs.count.more.Goals as goal
 
-pub returns-then-count-n : goal.returns-then-count-n
-unfolding added pick
-returns-then-count-n c =
-    simp (le-leb _ _ c.if-count-n.true)
-
 pub returns : goal.returns
-unfolding added pick
 returns c =
-    simp (lt-leb _ _ c.if-count-n.false)
+    c.unwrap_or.ensures ∙ sum_or_count _ _ _ (search rules) c.checked_add.ensures

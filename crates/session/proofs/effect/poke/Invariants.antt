@@ -1,11 +1,10 @@
--- The bytes from `at` on, put into the memory as it is, make of it what all of them make of the memory as it was. Left are these bytes.
+-- The bytes from the one at hand on, put into the memory as it is, make of it what all of them make of the memory as it was.
 -- Assumes nothing.
-use Rattle.std.proofs.Common.{◌-◌}
-use Rattle.session.proofs.Effects.{Poking}
+use Rattle.std.proofs.Common.{◌≡◌, ◌-◌, length}
+use Rattle.rules.specs.Entries.{poked}
+use Rattle.session.specs.Effects.{pokes}
 use Rattle.session.proofs.effect.poke.Given as goal
 
-abbrev pub invariant-loop-at : goal.invariant-loop-at
-invariant-loop-at l = Poking l.input l.initial.memory l.initial.at l.end l.initial.to l.memory l.at l.to
-
-abbrev pub decreases-loop-at : goal.decreases-loop-at
-decreases-loop-at l = l.end - l.at
+abbrev pub invariant-loop-byte : goal.invariant-loop-byte
+invariant-loop-byte l =
+    poked (pokes (length l.given - l.byte-index) l.given l.byte-index l.to) l.memory ≡ poked (pokes (length l.given) l.given 0 l.address) l.initial.memory

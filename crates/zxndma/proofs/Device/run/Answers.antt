@@ -2,34 +2,32 @@
 -- Assumes nothing.
 use borrow.Author.Rules.{rules}
 use Rattle.rules.specs.Buffers.{flat}
-use Rattle.rules.proofs.Turns.{going_ready, going_more, going_end}
-use Rattle.zxndma.proofs.Turns.{grant_starts, going_lengths}
+use Rattle.rules.proofs.Turns.{going_more, going_end}
+use Rattle.zxndma.proofs.Turns.{grant_starts}
 use Rattle.zxndma.proofs.Device.run.Goals as goal
 
-pub loop-left-init : goal.loop-left-init
-loop-left-init c =
-    grant_starts _ _ _ _ _ (record { a = record { address = search rules; pointer = search rules; step = search rules }; b = record { address = search rules; pointer = search rules; step = search rules }; length = search rules; prescaler = search rules }) c.requires
+pub loop-progress-init : goal.loop-progress-init
+loop-progress-init c =
+    record {
+      going = grant_starts _ _ _ _ _ (record { a = record { address = search rules; pointer = search rules; step = search rules }; b = record { address = search rules; pointer = search rules; step = search rules }; length = search rules; prescaler = search rules }) c.requires;
+      same = search rules;
+    }
 
-pub turn-passed-requires : goal.turn-passed-requires
-turn-passed-requires c =
-    going_ready flat c.loop-left.invariant c.loop-left-test.true
+pub turn-progress-requires : goal.turn-progress-requires
+turn-progress-requires c =
+    c.loop-progress-test.true
 
-pub loop-left-smaller : goal.loop-left-smaller
-loop-left-smaller c =
-    c.turn-passed.ensures.fewer
+pub loop-progress-smaller : goal.loop-progress-smaller
+loop-progress-smaller c =
+    c.turn-progress.ensures.passed.fewer
 
-pub loop-left-preserved : goal.loop-left-preserved
-loop-left-preserved c =
-    going_more flat c.loop-left.invariant c.turn-passed.ensures
+pub loop-progress-preserved : goal.loop-progress-preserved
+loop-progress-preserved c =
+    record {
+      going = going_more flat c.loop-progress.invariant.going c.turn-progress.ensures.passed;
+      same = search rules;
+    }
 
-pub shape_of-memory : goal.shape_of-memory
-shape_of-memory c =
-    (going_lengths c.loop-left.invariant).memory
-
-pub shape_of-latches : goal.shape_of-latches
-shape_of-latches c =
-    (going_lengths c.loop-left.invariant).latches
-
-pub returns : goal.returns
-returns c =
-    going_end flat c.loop-left.invariant c.loop-left-test.false
+pub returns-clause-passed : goal.returns-clause-passed
+returns-clause-passed c =
+    going_end flat c.loop-progress.invariant.going c.loop-progress-test.false

@@ -1,12 +1,18 @@
--- What has passed is as many clocks of the definition as are no longer left, and the rest has room. Left are the clocks.
+-- What has passed is as many clocks of the definition as are no longer left, and the rest has room; the buffers are behind the
+-- references that came. Left are the clocks.
 -- Assumes nothing.
 use Rattle.rules.specs.Buffers.{flat}
 use Rattle.rules.proofs.Turns.{Going}
-use Rattle.zxndma.proofs.Turns.{made}
+use Rattle.clocking.specs.Lent.{SameLent}
+use Rattle.zxndma.specs.Answers.{lent_system}
 use Rattle.zxndma.proofs.Device.run.Given as goal
 
-abbrev pub invariant-loop-left : goal.invariant-loop-left
-invariant-loop-left l = Going flat (made l.initial.memory l.initial.latches l.initial.device.core l.initial.device.clocks) l.clocks (made l.memory l.latches l.device.core l.device.clocks) l.left
+abbrev pub invariant-loop-progress : goal.invariant-loop-progress
+invariant-loop-progress l =
+    record {
+      going : Going flat (lent_system l.initial.progress.0 l.initial.lent) l.clocks (lent_system l.progress.0 l.lent) l.progress.1.0;
+      same : SameLent l.initial.lent l.lent;
+    }
 
-abbrev pub decreases-loop-left : goal.decreases-loop-left
-decreases-loop-left l = l.left
+abbrev pub decreases-loop-progress : goal.decreases-loop-progress
+decreases-loop-progress l = l.progress.1.0

@@ -1,6 +1,0 @@
--- Answer and device, put together, are the answer of the call by value.
--- Assumes nothing.
-use Rattle.in_place.proofs.zxndma_grant_in_place.Goals as goal
-
-pub returns : goal.returns
-returns c = c.grant-answer.ensures

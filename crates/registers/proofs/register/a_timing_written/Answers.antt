@@ -1,7 +1,0 @@
--- The call gives the new part, and the core takes it.
--- Assumes nothing.
-use Rattle.registers.proofs.register.a_timing_written.Goals as goal
-
-pub returns : goal.returns
-returns c =
-    simp (c.time-p.ensures, c.with_a.ensures)
