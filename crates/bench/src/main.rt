@@ -39,9 +39,9 @@ impl fmt::Display for Failure {
     }
 }
 
-// Where the program is. Memory and latches go beside it one by one, as `Session::step` takes them. Four functions ask that
-// `have` fits the input buffer: an invariant would need this struct in a file apart, since the definitions of this one name it,
-// and literals without `..`, which is no plainer.
+// Where the program is. Memory and latches go beside it one by one, as `Session::step` takes them. Four methods and `keep` ask
+// that `have` fits the input buffer: an invariant would need this struct in a file apart, since the definitions of this one name
+// it, and literals without `..`, which is no plainer.
 #[derive(Clone, Copy)]
 struct State {
     session: Session,
@@ -53,7 +53,8 @@ struct State {
     ended: bool,
 }
 
-// Where it is when the bytes at hand are worked through, and the progress of the last step.
+// Where it is when the bytes at hand are worked through, and the progress of the last step: like a step, but `filled` is the length
+// of all lines.
 #[derive(Clone, Copy)]
 struct Worked {
     session: Session,

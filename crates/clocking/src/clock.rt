@@ -11,7 +11,7 @@ use parts::{block, part, port, slot};
 use registers::command;
 use rules::{Core, Kind};
 
-// A clock: its kind, whether a byte moves on it, and the core after it.
+// A clock: its kind, whether a byte moves on it, and the core after it, which is there either way.
 #[derive(Clone, Copy)]
 pub struct Tick {
     pub kind: Kind,

@@ -58,7 +58,7 @@ pub fn move_bytes(c: Core, lent: &mut Lent, k: u32) -> Ports
     Ports { a, b }
 }
 
-// A product of a number of slots and a slot's clocks.
+// A product of a number of slots and a slot's clocks, in the 64 bits that it fits.
 fn times(k: u32, n: u16) -> u64
     ensures { result ≡ k * n }
 {

@@ -57,7 +57,8 @@ fn slot_span(mut c: Core, budget: u32) -> Span
 }
 
 // The next span of a core's clocks within a budget, the longest within one slot: the rest of its bus time or of its wait,
-// or all clocks of a disabled device. Of a core whose counter or slot is at the end of its type, as no valid core's is, none.
+// or all clocks of a disabled device. Of a core whose counter or slot is at the end of its type, as no valid core's is, none: a
+// span of 0 clocks, as of a budget of 0.
 pub fn next_span(c: Core, budget: u32) -> Span
     ensures { IsLongestSpan c (room_for c budget) result }
 {

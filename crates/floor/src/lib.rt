@@ -39,7 +39,7 @@ fn floor_of(c: Core) -> u32
 // Among any so many clocks in a row, the next one or a later one being the first, one at least is the processor's, as long as up
 // to the last of them no port access and no speed call is accepted and nobody changes the device otherwise; at most 65. 0, which
 // claims nothing, if the device is not valid, or if the slot that runs or the one that the registers start, enabled or not, is
-// continuous or no longer than its bus time.
+// continuous or no longer than its bus time. A number, since C has it.
 #[tactic(auto, unfolding(rules::specs::Floor::cpu_floor, rules::specs::Choice::pick))]
 pub fn cpu_floor(c: Core, k: Clocks) -> u32
     ensures { result ≡ cpu_floor c (total k) }

@@ -1,5 +1,5 @@
-// The pending parameters: one number, a bit for each, the lowest set bit the next one. No other module looks into the number:
-// what is next, what is pending after a byte, and whether the number is valid, is all that they ask.
+// The pending parameters: one number, a field that C has, with a bit for each, the lowest set bit the next one. No other module
+// looks into the number: what is next, what is pending after a byte, and whether the number is valid, is all that they ask.
 ghost use Rattle.std.specs.Prelude.{◌≡◌};
 ghost use Rattle.rules.specs.Pending.{next, wr0_asks, timing_asks, wr4_asks, asked, pending_after_as, valid_pending};
 ghost use Rattle.parts.specs.Numbers.{bit_of, parameter_number};
@@ -111,8 +111,8 @@ pub fn after(parameter: Option<Parameter>, byte: u8, p: u16) -> u16
     }
 }
 
-// What is pending after a byte, by the number of what is next: 0 for none, and else the parameter's bit. It takes every number, and
-// one that is no parameter's is taken off like a parameter's.
+// The same for who has what is next by its number, as the definitions have it: 0 for none, and else the parameter's bit. It takes
+// every number, and one that is no parameter's is taken off like a parameter's.
 #[tactic(auto, unfolding(rules::specs::Pending::pending_after_as, rules::specs::Pending::used_up, rules::specs::Choice::every, rules::specs::Choice::pick))]
 pub fn after_number(parameter: u16, byte: u8, p: u16) -> u16
     ensures { result ≡ pending_after_as parameter byte p }
@@ -125,7 +125,7 @@ pub fn after_number(parameter: u16, byte: u8, p: u16) -> u16
 }
 
 // The parameters are some of WR0's, some of WR4's, or one of the others alone. From A timing on, the numbers of one alone are the
-// divisors of the last one's, and WR4's two together are all that is left.
+// divisors of the last one's, and WR4's two together are all that is left. The last two tests are made as one, as those of `valid`.
 #[tactic(auto, using(crate::proofs::Parameters::of_wr0, crate::proofs::Parameters::from_timing_on))]
 pub fn is_valid(p: u16) -> bool
     ensures { result ≡ valid_pending p }

@@ -70,7 +70,7 @@ pub fn advance(mut p: Port) -> Port
     p
 }
 
-// What a step code adds to an address modulo 65,536: the address after a byte at 0.
+// What a step code adds to an address modulo 65,536: the address after a byte at 0. A loop that adds it has no branch on the step.
 #[tactic(auto, unfolding(rules::specs::Ports::stepped, rules::specs::Ports::stride, rules::specs::Choice::pick))]
 pub fn stride(step: u8) -> u16
     ensures { result ≡ stride step }

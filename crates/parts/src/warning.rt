@@ -68,8 +68,8 @@ pub fn of(parameter: Option<Parameter>, byte: u8) -> Option<Warning>
     }
 }
 
-// C's number for the warning of a byte, by the number of what is next: 0 for none, and else the parameter's bit. It takes every
-// number; one that is no parameter's has no warning.
+// The same for who has what is next by its number, as the definitions have it, and wants C's number: 0 for none, and else the
+// parameter's bit. It takes every number; one that is no parameter's has no warning.
 #[tactic(auto, unfolding(rules::specs::Warnings::warning_as, rules::specs::Choice::first_of, rules::specs::Choice::every, rules::specs::Choice::any, rules::specs::Choice::pick))]
 pub fn of_number(parameter: u16, byte: u8) -> u8
     ensures { result ≡ warning_as parameter byte }

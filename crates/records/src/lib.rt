@@ -46,7 +46,7 @@ impl From<Fault> for u8 {
     }
 }
 
-// The kinds of a record.
+// The kinds of a record, its first byte: names for the patterns below.
 const WRITE: u8 = 1;
 
 const READ: u8 = 2;

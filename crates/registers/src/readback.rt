@@ -13,7 +13,7 @@ pub struct Given {
     pub core: Core,
 }
 
-// The status byte, 00E1101T.
+// The status byte, 00E1101T, written out as its bits are.
 #[tactic(auto, unfolding(rules::specs::Readback::status_byte, rules::specs::Choice::pick))]
 fn status_byte(s: Status) -> u8
     ensures { result ≡ status_byte s }

@@ -1,5 +1,4 @@
--- Spans with their kind by number, as code may hand them on: they are single clocks, settled, and turns of a grant, as those
--- with the kind itself are.
+-- Spans with their kind by number: they are single clocks, settled, and turns of a grant, as those with the kind itself are.
 -- Assumes nothing.
 use Rattle.std.specs.Prelude.{ℕ, ◌+◌, ◌-◌, ◌≤◌, ◌<◌, ◌≡◌, Bool, false, true, [], ◌∷◌}
 use Rattle.rules.specs.Choice.{any}

@@ -23,7 +23,8 @@ impl From<Kind> for u8 {
     }
 }
 
-// Every byte stands for a kind: 0 for the bus, 1 for waiting with the bus held, any other one for the processor.
+// For who has a kind by number. Every byte stands for one: 0 for the bus, 1 for waiting with the bus held, any other one for the
+// processor.
 impl From<u8> for Kind {
     ghost from_gives = { λ number kind. kind ≡ kind_of number };
 

@@ -26,8 +26,8 @@ pub enum Phase {
 }
 
 impl Phase {
-    // The phase of a number, and of so many bytes still to come: 0, 1 and 2 in the order above, and over from 3 on. The bytes
-    // matter in phase 2 alone.
+    // For who has a phase by its number, as the definitions have it, and so many bytes still to come: 0, 1 and 2 in the order above,
+    // and over from 3 on. The bytes matter in phase 2 alone.
     #[tactic(auto, unfolding(rules::specs::Choice::pick))]
     pub fn of_number(number: u8, left: usize) -> Self
         ensures { (device : Device) → in_numbers (record { phase = result; device = device }) ≡ numbered (in_phase number left device) }

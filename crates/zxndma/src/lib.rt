@@ -35,6 +35,9 @@ pub struct Device {
     pub clocks: Clocks,
 }
 
+// The answers hold refusal and warning by number, since no enum crosses to C, and each call's is a struct of its own, also where
+// two have the same fields, since C names them.
+
 // The answer to a port write.
 #[repr(C)]
 #[derive(Clone, Copy)]
@@ -260,6 +263,7 @@ impl Device {
             device: self,
             left: clocks,
         };
+        // It counts no turns: each takes as many clocks as it can.
         while 0 < progress.left {
             progress = progress.turn(lent);
         }
@@ -308,6 +312,7 @@ impl Progress {
         core.block.counter += slots;
         core.status.t = true;
         let next = clock::end_slot(core);
+        // What is spent fits 32 bits, being at most what is left.
         Progress {
             device: Device {
                 core: next,
