@@ -1,4 +1,5 @@
 pub mod Buffered
+pub mod Failing
 pub mod State
 pub mod Working
 pub mod Turning

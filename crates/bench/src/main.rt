@@ -2,11 +2,12 @@
 // step; it holds the memory and the latches, reads and writes.
 #![tactic(auto)]
 
-ghost use Rattle.std.specs.Prelude.{◌+◌, ◌-◌, ◌≤◌, ◌≡◌, length};
+ghost use Rattle.std.specs.Prelude.{◌+◌, ◌-◌, ◌≤◌, ◌≡◌, ◌↔◌, true, length};
 ghost use Rattle.clocking.specs.Answers.{borrowed};
 ghost use Rattle.session.specs.Steps.{outcome};
 ghost use Rattle.session.specs.Numbers.{in_numbers, step_in_numbers};
 ghost use Rattle.bench.specs.Buffered.{at_hand, kept};
+ghost use Rattle.bench.specs.Failing.{PipeClosed};
 ghost use Rattle.bench.specs.State.{state_at_start, state_of, worked_of};
 ghost use Rattle.bench.specs.Working.{step_behind, gathered_in, left, left_by};
 ghost use Rattle.bench.specs.Turning.{AreLines, Ran};
@@ -25,7 +26,9 @@ enum Failure {
 
 impl Failure {
     // Whether nobody reads the lines any more.
-    fn is_closed_pipe(&self) -> bool {
+    fn is_closed_pipe(&self) -> bool
+        ensures { (result ≡ true) ↔ PipeClosed self.now }
+    {
         matches!(self, Failure::Write(why) if why.kind() == ErrorKind::BrokenPipe)
     }
 }

@@ -1,4 +1,5 @@
 pub mod Counts
+pub mod Buffers
 pub mod Spans
 pub mod Stretches
 pub mod WholeSlots

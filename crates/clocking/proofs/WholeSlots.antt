@@ -1,9 +1,10 @@
 -- Whole slots: what their number and their clocks are, and bytes on the way. After i of k bytes the ports are as many steps
 -- further, and the buffers are as after i bytes one by one; a stride is a step, since pointers stay below 65,536.
 -- Assumes nothing.
-use Prim.Native.Nat.{ℕ, ◌+◌, ◌/◌, ◌%◌, ◌≤◌, ◌<◌}
+use Prim.Native.Nat.{ℕ, ◌+◌, ◌*◌, ◌/◌, ◌%◌, ◌≤◌, ◌<◌}
 use native.Mathlib.Omega.{arith}
 use native.Mathlib.Numerals.{add-one}
+use native.Mathlib.Nat.{mul-le-mul}
 use mathlib.Core.Path.{◌≡◌, refl, sym, ◌∙◌, ap}
 use mathlib.Core.Bool.{Bool, true}
 use mathlib.Core.List.{List}
@@ -38,6 +39,13 @@ module _ (c : Core) {starts : Bool} (e : starts ≡ at_slot_start c) (t : starts
   unfolding slots_within
   slots_at_start budget s n x =
       x ∙ (λ i. least (budget / (s i).length) (n i)) ∙ sym (pick_true _ _ _ (sym e ∙ t))
+
+-- a product fits 64 bits
+pub times_fit : (k n : ℕ) → k < 4294967296 → n < 65536 → k * n < 18446744073709551616
+times_fit k n h l =
+    let x : k ≤ 4294967295 = omega arith in
+    let y : n ≤ 65535 = omega arith in
+    let z : k * n ≤ 4294967295 * 65535 = mul-le-mul x y in omega arith
 
 -- ---- bytes on the way
 

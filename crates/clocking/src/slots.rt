@@ -2,7 +2,7 @@
 ghost use Rattle.std.specs.Prelude.{◌≡◌, ◌*◌};
 ghost use Rattle.rules.specs.WholeSlots.{at_slot_start, slots_within};
 ghost use Rattle.clocking.specs.Answers.{slots_counted_within, BytesMoved};
-ghost use Rattle.clocking.specs.Lent.{buffers_of, SameLent};
+ghost use Rattle.clocking.specs.Lent.{buffers_of, SameLent, AsLong};
 
 use crate::transfer::Lent;
 use crate::{clock, count, place};
@@ -42,6 +42,7 @@ pub struct Ports {
 // Bytes are moved, `k` of them one after the other; the ports after them.
 pub fn move_bytes(c: Core, lent: &mut Lent, k: u32) -> Ports
     ensures same { SameLent lent.old lent.new }
+    ensures long { AsLong (buffers_of lent.new) (buffers_of lent.old) }
     ensures moved { BytesMoved c k (buffers_of lent.old) (buffers_of lent.new) result.a result.b }
 {
     let mut a = c.a;

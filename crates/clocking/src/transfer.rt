@@ -2,13 +2,13 @@
 ghost use Rattle.std.specs.Prelude.{◌≡◌};
 ghost use Rattle.rules.specs.Buffers.{flat, byte_at, transfer};
 ghost use Rattle.rules.specs.World.{buffers_after};
-ghost use Rattle.clocking.specs.Lent.{buffers_of, SameLent};
+ghost use Rattle.clocking.specs.Lent.{buffers_of, SameLent, AsLong};
 
 use parts::bytes;
 use rules::Place;
 
 // The memory and the I/O latches that a caller lends. That the same two slices are still lent is a fact of before and after,
-// of which no invariant speaks: each function that moves bytes promises `SameLent`.
+// of which no invariant speaks: each function that moves bytes promises `SameLent`, and the two that other crates call `AsLong`.
 #[derive(Drop)]
 pub struct Lent<'a> {
     pub memory: &'a mut [u8],
@@ -48,6 +48,7 @@ impl Lent<'_> {
     #[tactic(auto, unfolding(rules::specs::World::buffers_after, rules::specs::Choice::pick))]
     pub fn move_if(&mut self, moves: bool, from: Place, to: Place)
         ensures same { SameLent self.old self.new }
+        ensures long { AsLong (buffers_of self.new) (buffers_of self.old) }
         ensures moved { buffers_of self.new ≡ buffers_after flat moves from to (buffers_of self.old) }
     {
         if moves {

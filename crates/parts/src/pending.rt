@@ -30,7 +30,7 @@ impl From<Parameter> for u16 {
 }
 
 // Nothing is pending.
-pub(crate) const NOTHING: u16 = 0;
+pub const NOTHING: u16 = 0;
 
 // WR4's two together. A const takes no `From`, hence the casts.
 const B_BOTH: u16 = Parameter::BLow as u16 + Parameter::BHigh as u16;

@@ -165,6 +165,11 @@ every_at k [] e = clash (sym e)
 every_at zero (t ∷ ts) e = every_stop t ts e
 every_at (suc k) (t ∷ ts) e = every_stop_later t ts (every_at k ts e)
 
+pub every_go : (t : Bool) (ts : List Bool) → t ≡ true → every (t ∷ ts) ≡ every ts
+unfolding every pick
+every_go true ts e = refl
+every_go false ts e = clash e
+
 -- every test of a list, as strict code computes it
 pub every_last : (t : Bool) → every (t ∷ []) ≡ t
 unfolding every pick

@@ -2,23 +2,26 @@
 -- in numbers stands for. Of a memory record's bytes those that are left, put into the memory as it is, make of it what all make
 -- of the memory as it was.
 -- Assumes nothing.
-use Rattle.std.proofs.Common.{◌≡◌, ℕ, zero, suc, ◌+◌, ◌-◌, ◌%◌, ◌<◌, ◌≤◌, List, ◌∷◌, length, get_or, set, drop, sym, refl, ap, ◌∙◌, arith}
+use Rattle.std.proofs.Common.{◌≡◌, ℕ, zero, suc, ◌+◌, ◌-◌, ◌%◌, ◌<◌, ◌≤◌, List, [], ◌∷◌, length, get_or, set, drop, sym, refl, ap, ◌∙◌, arith, ne_eqb}
 use Rattle.std.proofs.lemmas.List.{get_or-take, get_or-drop, length-take}
-use Rattle.rules.specs.Calls.{Reply, unless_refused, write_reply, read_reply, write_reply_over}
-use Rattle.rules.specs.Entries.{poked, outside_change}
+use Rattle.rules.specs.Buffers.{flat}
+use Rattle.rules.specs.Calls.{Answer, Reply, accepted, unless_refused, write_reply, read_reply, write_reply_over}
+use Rattle.rules.specs.Entries.{Poke, poked, flat_outside, Entry, outside_change, enter}
 use Rattle.rules.specs.Choice.{pick}
 use Rattle.rules.specs.declared.Clocks.{Clocks}
 use Rattle.rules.specs.declared.Core.{Core}
 use Rattle.rules.proofs.Choice.{pick_both}
 use Rattle.rules.proofs.Warned.{warning_answered}
-use Rattle.zxndma.specs.Answers.{write_answer, read_answer}
+use Rattle.zxndma.specs.Answers.{system_of, write_answer, read_answer}
+use Rattle.zxndma.specs.declared.Device.{Device}
 use Rattle.zxndma.specs.declared.WriteAnswer.{WriteAnswer}
 use Rattle.zxndma.specs.declared.ReadAnswer.{ReadAnswer}
+use Rattle.records.specs.Records.{Record as RecordInNumbers}
 use Rattle.records.specs.Found.{record_before, LentBefore}
 use Rattle.records.specs.declared.Record.{Record}
 use Rattle.records.specs.declared.Record.TheVariants.{Write, Read, Grant, Memory}
 use Rattle.lines.specs.Lines.{record_line}
-use Rattle.session.specs.Effects.{pokes, entry_of}
+use Rattle.session.specs.Effects.{pokes, entry_of, effect}
 use Rattle.session.specs.Numbers.{entry_found}
 
 -- ---- the line
@@ -87,3 +90,21 @@ entry_same xs next (Memory address b) h =
     ∙ get_or-drop s xs j 0
     ∙ ap (λ (n : ℕ). get_or xs n 0) (let z : s + j ≡ k = omega (arith, e, g) in z))
     ∙ ap (λ (n : ℕ). pokes n xs s address) (let z : l ≡ next - s = omega arith in z))
+
+-- ---- a record in numbers of no kind
+
+module _ (xs : List ℕ) (r : RecordInNumbers) where
+  -- what is none of the first three kinds
+  pub record Other : Type 0 where
+    pub write : r.number ≡ 1 → ⊥
+    pub read : r.number ≡ 2 → ⊥
+    pub grant : r.number ≡ 3 → ⊥
+
+  entry_none : Other → (r.number ≡ 4 → ⊥) → outside_change [] ≡ entry_of xs r
+  unfolding entry_of pick
+  entry_none o n = simp (ne_eqb _ _ o.write, ne_eqb _ _ o.read, ne_eqb _ _ o.grant, ne_eqb _ _ n)
+
+  -- it is accepted and does nothing
+  pub carried_none : (d : Device) (m l : List ℕ) → Other → (r.number ≡ 4 → ⊥) → ◌≡◌ {A = Answer (List ℕ)} (record { answered = accepted 0; system = system_of d m l }) (effect xs r (system_of d m l))
+  unfolding poked
+  carried_none d m l o n = ap (λ (e : Entry flat (List Poke)). enter flat flat_outside e (system_of d m l)) (entry_none o n)

@@ -15,7 +15,7 @@ use Rattle.lines.specs.declared.Line.{Line}
 use Rattle.session.specs.Effects.{pokes}
 use Rattle.session.specs.Steps.{Session, Step, Said, Outcome, at_version, at_record, in_long, over, goes_on, needs_bytes, is_over, no_room, last_fault, last_counts}
 use Rattle.session.specs.declared.step.Phase.{Phase}
-use Rattle.session.specs.declared.step.Phase.TheVariants.{Version, Records, Long, Over}
+use Rattle.session.specs.declared.step.Phase.TheVariants.{Version, Records, Long, Over, Numbered}
 use Rattle.session.specs.declared.step.Session.{Session as SessionHeld}
 use Rattle.session.specs.declared.step.Progress.{Progress}
 use Rattle.session.specs.declared.step.Progress.TheVariants.{GoesOn, Waits, IsOver, NoRoom}
@@ -32,18 +32,20 @@ entry_found (Memory address bytes) = outside_change (pokes (length bytes.now) by
 abbrev pub effect_found : Record → System (List ℕ) → Answer (List ℕ)
 effect_found r s = enter flat flat_outside (entry_found r) s
 
--- a session; outside a record that is too long none of its bytes are still to come
+-- a session; outside a record that is too long none of its bytes are still to come, but where the phase has them by its number
 abbrev pub phase_number : Phase → ℕ
 phase_number Version = at_version
 phase_number Records = at_record
 phase_number (Long left) = in_long
 phase_number Over = over
+phase_number (Numbered number left) = number
 
 abbrev pub left_in : Phase → ℕ
 left_in Version = 0
 left_in Records = 0
 left_in (Long left) = left
 left_in Over = 0
+left_in (Numbered number left) = left
 
 abbrev pub in_numbers : SessionHeld → Session
 in_numbers s = record { phase = phase_number s.phase; left = left_in s.phase; device = s.device }

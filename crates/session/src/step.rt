@@ -23,6 +23,9 @@ pub enum Phase {
     Long { left: usize },
     // It is over.
     Over,
+    // Any of these by its number, as `of_number` reads it, with so many bytes still to come, whatever they are: for who holds a
+    // session in numbers. A step that hands the session back hands it back so.
+    Numbered { number: u8, left: usize },
 }
 
 impl Phase {
@@ -225,10 +228,18 @@ impl Session {
         ensures { (out : List ℕ) → room ≤ length out → written_beside result memory.new latches.new out ≡ step_of (in_numbers self) input.now place ended out (borrowed memory.old latches.old) }
     {
         match self.phase {
-            Phase::Version => self.version_step(input, place, ended),
-            Phase::Records => self.record_step(input, place, ended, memory, latches),
-            Phase::Long { left } => self.long_step(left, input, place, ended),
-            Phase::Over => Advance::silent(Progress::IsOver(None), place, self),
+            Phase::Version | Phase::Numbered { number: 0, .. } => {
+                self.version_step(input, place, ended)
+            }
+            Phase::Records | Phase::Numbered { number: 1, .. } => {
+                self.record_step(input, place, ended, memory, latches)
+            }
+            Phase::Long { left } | Phase::Numbered { number: 2, left } => {
+                self.long_step(left, input, place, ended)
+            }
+            Phase::Over | Phase::Numbered { .. } => {
+                Advance::silent(Progress::IsOver(None), place, self)
+            }
         }
     }
 

@@ -1,5 +1,5 @@
 -- What the grant's functions leave, over the flat memory: a span, or whole slots, is a turn of the rules; clocks of a wait
--- and of a disabled device are as many of the definition.
+-- and of a disabled device are as many of the definition; and no clock changes the lengths of the buffers.
 -- Assumes nothing.
 use Prim.Native.Nat.{ℕ, ◌+◌, ◌*◌, ◌-◌, ◌≤◌, ◌<◌}
 use native.Mathlib.Omega.{arith}
@@ -32,6 +32,8 @@ use Rattle.rules.proofs.Calls.{granted, valid_device}
 use Rattle.clocking.specs.Answers.{borrowed, room_for, wait_answer, wait_of, counted_within, slots_counted_within, BytesMoved}
 use Rattle.std.specs.Prelude.{Some}
 use Rattle.clocking.proofs.Counts.{counted_all, slots_counted_all}
+use Rattle.clocking.specs.Lent.{AsLong}
+use Rattle.clocking.proofs.Buffers.{clocked_lengths}
 use Rattle.clocking.proofs.Spans.{valid_span}
 use Rattle.clocking.proofs.Stretches.{wait_facts}
 use Rattle.zxndma.specs.declared.Device.{Device}
@@ -47,6 +49,10 @@ made m l c k = system c (borrowed m l) k
 pub grant_starts : (m l : List ℕ) (c : Core) (k : Clocks) (n : ℕ) → InRange c → grant_refusal flat c (total k) (borrowed m l) n ≡ 0 → Going flat (made m l c k) n (made m l c k) n
 grant_starts m l c k n r e =
     let g = granted flat c (total k) (borrowed m l) n e in going_start flat (made m l c k) n (valid_device c k r g.state).core g.room
+
+pub going_lengths : {s t : System (List ℕ)} {n left : ℕ} → Going flat s n t left → AsLong t.world.buffers s.world.buffers
+going_lengths {s} {n = n} {left} g =
+    subst (λ (u : System (List ℕ)). AsLong u.world.buffers s.world.buffers) (sym g.here) (clocked_lengths (n - left) s)
 
 -- what a turn asks of a progress with clocks left
 pub ready : {c : Core} {k : Clocks} {left : ℕ} → Kept c → total k + left ≤ most64 → 0 < left → Ready c k left

@@ -1,6 +1,7 @@
 -- After some of the k bytes the ports and the buffers are those of as many bytes, and the strides are those of the ports' steps.
 -- Assumes nothing.
 use borrow.Author.Rules.{rules}
+use Rattle.clocking.proofs.Buffers.{moved_lengths}
 use Rattle.clocking.proofs.WholeSlots.{carrying_start, carrying_more, carrying_end}
 use Rattle.clocking.proofs.slots.move_bytes.Goals as goal
 
@@ -31,3 +32,7 @@ loop-preserved c =
 pub returns-clause-moved : goal.returns-clause-moved
 returns-clause-moved c =
     carrying_end c.loop.invariant.carrying c.loop-test.false
+
+pub returns-clause-long : goal.returns-clause-long
+returns-clause-long c =
+    moved_lengths (carrying_end c.loop.invariant.carrying c.loop-test.false)

@@ -1,0 +1,7 @@
+-- The answer is the one that the method promises.
+-- Assumes nothing.
+use Rattle.host.proofs.zxndma_write.Goals as goal
+
+pub returns : goal.returns
+returns c =
+    c.write.ensures
