@@ -57,6 +57,9 @@ decimal_one : (most n : ℕ) → n < 10 → decimal_to (suc most) n ≡ (48 + n)
 unfolding decimal_to
 decimal_one most n h = pick_true (ltb n 10) _ _ (lt-ltb _ _ h)
 
+pub decimal_digit : (n : ℕ) → n < 10 → decimal n ≡ (48 + n) ∷ []
+decimal_digit n h = decimal_one 19 n h
+
 decimal_more : (most n : ℕ) → 10 ≤ n → decimal_to (suc most) n ≡ decimal_to most (n / 10) ++ ((48 + n % 10) ∷ [])
 unfolding decimal_to
 decimal_more most n h = pick_false (ltb n 10) _ _ (le-ltb _ _ h)
