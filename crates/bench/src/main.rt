@@ -14,8 +14,7 @@ ghost use Rattle.bench.specs.Turning.{AreLines, Ran};
 ghost use Rattle.bench.specs.Answered.{RefillAnswered, TurnAnswered};
 
 use session::step::{Progress, Session, Step};
-use std::io::{ErrorKind, Read, Write};
-use std::{fmt, io};
+use std::io::{self, ErrorKind, Read, Write};
 
 // Why the program stops before the session is over.
 #[derive(Debug, Drop)]
@@ -31,14 +30,14 @@ impl Failure {
     {
         matches!(self, Failure::Write(why) if why.kind() == ErrorKind::BrokenPipe)
     }
-}
 
-impl fmt::Display for Failure {
-    fn fmt<W: fmt::Write>(&self, f: &mut fmt::Formatter<W>) -> fmt::Result {
-        match self {
-            Failure::Read(why) => write!(f, "cannot read the session: {why}"),
-            Failure::Write(why) => write!(f, "cannot write the lines: {why}"),
-        }
+    // Says on standard error what could not be done, and why. Where that cannot be said either, nobody hears of it. No `Display`:
+    // its text would end in the system's words, of which no definition speaks.
+    fn say<R: Eprint>(&self, rt: &R) {
+        let _ = match self {
+            Failure::Read(why) => eprintln!(rt; "bench: cannot read the session: {why}"),
+            Failure::Write(why) => eprintln!(rt; "bench: cannot write the lines: {why}"),
+        };
     }
 }
 
@@ -213,9 +212,9 @@ fn main(rt: HostRuntime) {
     let mut memory = [0; 65536];
     let mut latches = [0; 65536];
     if let Err(failure) = run(&rt, &mut memory, &mut latches) {
-        // Where nobody reads on, the program stops without a word, and where the word cannot be said, nobody hears of it.
+        // Where nobody reads on, the program stops without a word.
         if !failure.is_closed_pipe() {
-            let _ = eprintln!(rt; "bench: {failure}");
+            failure.say(&rt);
         }
     }
 }
